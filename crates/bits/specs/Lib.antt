@@ -1,0 +1,3 @@
+pub mod Bits
+pub mod Whole
+pub mod Lowest

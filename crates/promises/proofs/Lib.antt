@@ -1,0 +1,3 @@
+-- Theorems on the rules.
+pub mod Within
+pub mod Spans

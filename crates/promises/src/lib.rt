@@ -1,0 +1,1 @@
+// Theorems on the rules: proofs/. There is no code here.

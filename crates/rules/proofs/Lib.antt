@@ -1,0 +1,10 @@
+-- The laws of the definitions in specs/, and the cases that are computed.
+pub mod Choice
+pub mod Evaluate
+pub mod Cases
+pub mod FittingCases
+pub mod Rounds
+pub mod Tries
+pub mod Heads
+pub mod Tables
+pub mod Outcomes

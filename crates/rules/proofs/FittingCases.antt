@@ -21,7 +21,7 @@ entry node begin end code errors number detail size =
 
 -- node n alone
 leaf : (n : ℕ) (e : Entry) → e .node ≡ n → e .size ≡ 1 → Leaf n e []
-leaf n e node size = record { stands = record { node = node; size = size }; none = refl }
+leaf n e node size = record { stands = record { node = node; size = size }; alone = refl }
 
 turned : List ℕ
 turned = 0xff ∷ 0xfa ∷ 0x00 ∷ 0x04 ∷ []

@@ -41,10 +41,10 @@ pub record Stands (n : ℕ) (e : Entry) (beneath : List Entry) : Type 0 where
   pub node : e .node ≡ n
   pub size : e .size ≡ suc (length beneath)
 
--- An entry with none beneath it.
+-- The entry of a node without children: none stands beneath it.
 pub record Leaf (n : ℕ) (e : Entry) (beneath : List Entry) : Type 0 where
   pub stands : Stands n e beneath
-  pub none : beneath ≡ []
+  pub alone : beneath ≡ []
 
 -- "The one child of either, where, scan and absorb has its parent's span."
 pub record Child (Fit : Run) (e : Entry) (beneath : List Entry) : Type 0 where

@@ -26,6 +26,7 @@ firstOf [] = none
 firstOf (none ∷ rest) = firstOf rest
 firstOf (some r ∷ rest) = some r
 
+-- Whether a number is in a list.
 unfoldable pub isIn : ℕ → List ℕ → Bool
 isIn c [] = false
 isIn c (d ∷ ds) = eqb c d || isIn c ds

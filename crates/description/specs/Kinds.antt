@@ -26,6 +26,7 @@ isSignedWidth w = eqb w 8 || eqb w 16 || eqb w 32
 unfoldable pub relations : List Relation
 relations = equal ∷ notEqual ∷ less ∷ atMost ∷ greater ∷ atLeast ∷ []
 
+-- Whether a byte is listed as a relation, and the relation that it is listed as.
 unfoldable pub isRelation : ℕ → Bool
 isRelation r = ltb r (length relations)
 
@@ -36,6 +37,7 @@ relation r = getD relations r equal
 unfoldable pub operators : List Operator
 operators = add ∷ subtract ∷ []
 
+-- Whether a byte is listed as an operator, and the operator that it is listed as.
 unfoldable pub isOperator : ℕ → Bool
 isOperator f = ltb f (length operators)
 
@@ -43,11 +45,13 @@ unfoldable pub operator : ℕ → Operator
 operator f = getD operators f add
 
 -- "An operand is five bytes: 00 and a 32-bit two's complement constant, or 01, three zero bytes and k". "Words are big endian."
+-- Whether the five bytes from i on are one.
 unfoldable pub isOperand : List ℕ → ℕ → Bool
 isOperand desc i =
     eqb (byte desc i) 0
     || (eqb (byte desc i) 1 && eqb (byte desc (i + 1)) 0 && eqb (byte desc (i + 2)) 0 && eqb (byte desc (i + 3)) 0)
 
+-- The operand that such five bytes say.
 unfoldable pub operand : List ℕ → ℕ → Operand
 operand desc i =
     cond (eqb (byte desc i) 0)
@@ -70,6 +74,7 @@ row bytes listed node = record { bytes = bytes; listed = listed; node = node }
 free : List ℕ → ℕ → Bool
 free d i = true
 
+-- the row of kind 00
 unfoldable pub unitRow : Row
 unfolding row free
 unitRow = row 0 free (λ d i. unit)

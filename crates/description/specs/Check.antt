@@ -7,7 +7,7 @@ use lib.Dec.{eqb, leb, ltb}
 use lib.ListN.{length, getD}
 use Rattle.description.specs.Limits.{mostBytes, mostNodes, mostBinds}
 use Rattle.description.specs.Nodes.{Node, unit, children, isNumber, mustBeNumbers}
-use Rattle.description.specs.Kinds.{Row, kinds, unitRow, byte}
+use Rattle.description.specs.Kinds.{byte, kinds, rowOf}
 use Rattle.description.specs.Trees.{Tree, rootTree}
 use Rattle.description.specs.Binds.{needs, binds}
 use Rattle.description.specs.declared.Refusal.{Refusal}
@@ -62,17 +62,13 @@ pub data Parsed : Type 0 where
   stopped : Refusal → Parsed
 
 module _ (desc : List ℕ) where
-  -- The row of the kind whose byte stands at i; of an unknown kind, unit's.
-  unfoldable pub rowAt : ℕ → Row
-  rowAt i = getD kinds (byte desc i) unitRow
-
   -- The node that begins at byte i: "one byte of kind, then a body whose length the kind fixes".
   unfoldable pub nodeAt : ℕ → Node
-  nodeAt i = rowAt i .node desc (i + 1)
+  nodeAt i = rowOf (byte desc i) .node desc (i + 1)
 
   -- Where the node that begins at byte i ends.
   unfoldable pub nodeEnd : ℕ → ℕ
-  nodeEnd i = i + 1 + rowAt i .bytes
+  nodeEnd i = i + 1 + rowOf (byte desc i) .bytes
 
   -- "2, 3, 5, 6, 7, 8", for the node that begins at byte i, after the nodes before it.
   unfoldable pub nodeRefusal : List Node → ℕ → Option Refusal
@@ -82,7 +78,7 @@ module _ (desc : List ℕ) where
       firstOf
       (refuseIf (leb (length kinds) (byte desc i)) (UnknownKind n)  -- 2
       ∷ refuseIf (ltb (length desc) (nodeEnd i)) (BodyCutShort n)  -- 3
-      ∷ refuseIf (not (rowAt i .listed desc (i + 1))) (NotListed n)  -- 5
+      ∷ refuseIf (not (rowOf (byte desc i) .listed desc (i + 1))) (NotListed n)  -- 5
       ∷ refuseIf (someNotSmaller n (children node)) (ChildNotSmaller n)  -- 6
       ∷ refuseIf (someNamedBefore (namedBy before) (children node)) (ChildNamedBefore n)  -- 7
       ∷ refuseIf (someNoNumber before (mustBeNumbers node)) (NumberNodeWanted n)  -- 8

@@ -103,3 +103,7 @@ kinds =
     ∷ row 1 free (λ d i. absorb (byte d i))  -- 0B absorb
     ∷ row 1 free (λ d i. scan (byte d i))  -- 0C scan
     ∷ []
+
+-- The row of a kind's byte; of an unknown kind, unit's.
+unfoldable pub rowOf : ℕ → Row
+rowOf kind = getD kinds kind unitRow

@@ -1,3 +1,4 @@
+-- Document 01's words.
 pub mod Limits
 pub mod Nodes
 pub mod Kinds
@@ -5,3 +6,10 @@ pub mod Trees
 pub mod Binds
 pub mod Refusals
 pub mod Check
+-- What the check leaves for the reader.
+pub mod Places
+pub mod Examine
+-- What the functions of the check promise each other.
+pub mod Bodies
+pub mod Names
+pub mod Steps

@@ -1,12 +1,11 @@
 -- 01's table of refusals, 1 to 11: the number of each, and the node given.
 use Prim.Native.Nat.{ℕ}
-use Rattle.description.specs.Limits.{mostNodes}
 use Rattle.description.specs.declared.Refusal.{Refusal}
 use Rattle.description.specs.declared.Refusal.the-variants.{EmptyOrTooLong, UnknownKind, BodyCutShort, TooManyNodes, NotListed, ChildNotSmaller, ChildNamedBefore, NumberNodeWanted, NeverNamed, NoEnclosingBind, TooManyBinds}
 use Rattle.description.specs.declared.Verdict.{Verdict}
 use Rattle.description.specs.declared.Verdict.the-variants.{Accepted, Refused}
 
-unfoldable pub refusalNumber : Refusal → ℕ
+abbrev pub refusalNumber : Refusal → ℕ
 refusalNumber EmptyOrTooLong = 1
 refusalNumber (UnknownKind n) = 2
 refusalNumber (BodyCutShort n) = 3
@@ -19,11 +18,11 @@ refusalNumber (NeverNamed n) = 9
 refusalNumber (NoEnclosingBind n) = 10
 refusalNumber (TooManyBinds n) = 11
 
-unfoldable pub refusalNode : Refusal → ℕ
+abbrev pub refusalNode : Refusal → ℕ
 refusalNode EmptyOrTooLong = 0
 refusalNode (UnknownKind n) = n
 refusalNode (BodyCutShort n) = n
-refusalNode TooManyNodes = mostNodes
+refusalNode TooManyNodes = 64
 refusalNode (NotListed n) = n
 refusalNode (ChildNotSmaller n) = n
 refusalNode (ChildNamedBefore n) = n
@@ -33,10 +32,10 @@ refusalNode (NoEnclosingBind n) = n
 refusalNode (TooManyBinds n) = n
 
 -- "The check alone gives 1 to 11 with the node, or 0 and node 0 where it accepts."
-unfoldable pub verdictNumber : Verdict → ℕ
+abbrev pub verdictNumber : Verdict → ℕ
 verdictNumber Accepted = 0
 verdictNumber (Refused r) = refusalNumber r
 
-unfoldable pub verdictNode : Verdict → ℕ
+abbrev pub verdictNode : Verdict → ℕ
 verdictNode Accepted = 0
 verdictNode (Refused r) = refusalNode r

@@ -1,7 +1,31 @@
-// A description's bytes: refusals and the verdict of the check.
+// A description's bytes: refusals, and the check.
+mod binds;
+mod kinds;
+mod names;
+mod nodes;
+mod places;
+pub mod refusals;
 
-// Why a description is refused: the first of document 01's reasons, in its order. A case holds the node
-// that it gives, where 01 does not fix that number.
+ghost use mathlib.Core.Path.{_≡_};
+ghost use Prim.Native.Nat.{ℕ, _≤_, _<_};
+ghost use lib.ListN.{length};
+ghost use Rattle.description.specs.Check.{checked};
+ghost use Rattle.description.specs.Examine.{examined, startsAfter, Readable};
+ghost use Rattle.description.specs.Steps.{judged, Whole};
+ghost use Rattle.description.specs.Limits.{mostBytes};
+ghost use Rattle.description.specs.Places.{nodesTo};
+
+// "description empty or over 1,024 bytes"
+const MOST_BYTES: usize = 1024;
+
+// "A description holds 1 to 64 nodes."
+pub const MOST_NODES: usize = 64;
+
+// "more than 31 binds around one node"
+const MOST_BINDS: usize = 31;
+
+// Why a description is refused: the first of document 01's reasons, in its order. A case holds the node that it gives, where 01 does not fix
+// that number.
 pub enum Refusal {
     // 1: description empty or over 1,024 bytes.
     EmptyOrTooLong,
@@ -27,7 +51,62 @@ pub enum Refusal {
     TooManyBinds(u8),
 }
 
+// What the check says.
 pub enum Verdict {
     Accepted,
     Refused(Refusal),
+}
+
+// What the check says to a reader: how many nodes an accepted description has.
+pub enum Examined {
+    Nodes(usize),
+    Refused(Refusal),
+}
+
+// "The check alone".
+pub fn check(desc: &[u8]) -> Verdict
+    ensures { λ r. ⌜ r ≡ checked (now (desc .entry)) ⌝ }
+{
+    let mut starts = [0usize; MOST_NODES];
+    match examine(desc, &mut starts) {
+        Examined::Nodes(_) => Verdict::Accepted,
+        Examined::Refused(r) => Verdict::Refused(r),
+    }
+}
+
+// The check, which leaves where each node begins to the reader.
+pub fn examine(desc: &[u8], starts: &mut [usize; MOST_NODES]) -> Examined
+    ensures { λ r. ⌜ r ≡ examined (now (desc .entry)) ⌝ }
+    ensures { λ _. ⌜ now (starts .exit) ≡ startsAfter (now (desc .entry)) (now (starts .entry)) ⌝ }
+    ensures { λ r. ⌜ ((n : ℕ) → r ≡ Examined.Nodes n → Readable (now (desc .entry)) (now (starts .exit)) n) ⌝ }
+{
+    if desc.len() == 0 {
+        return Examined::Refused(Refusal::EmptyOrTooLong);
+    }
+    if MOST_BYTES < desc.len() {
+        return Examined::Refused(Refusal::EmptyOrTooLong);
+    }
+    let mut named = [false; MOST_NODES];
+    match nodes::parse(desc, starts, &mut named) {
+        nodes::Parsed::Stopped(r) => Examined::Refused(r),
+        nodes::Parsed::Nodes(n) => whole(desc, starts, &named, n),
+    }
+}
+
+// "9, 10, 11", for n nodes that were parsed.
+fn whole(desc: &[u8], starts: &[usize], named: &[bool; MOST_NODES], n: usize) -> Examined
+    requires { ⌜ (length (now desc) ≤ mostBytes) × (0 < n) × Whole (now desc) (now starts) (now named) n ⌝ }
+    ensures { λ r. ⌜ r ≡ judged (nodesTo (now (desc .entry)) n) ⌝ }
+{
+    let root = n - 1;
+    if let names::Unnamed::Node(i) = names::lowest_unnamed(named, root) {
+        return Examined::Refused(Refusal::NeverNamed(i));
+    }
+    if 0 < binds::needs(desc, starts, root) {
+        return Examined::Refused(Refusal::NoEnclosingBind(root as u8));
+    }
+    if MOST_BINDS < binds::binds(desc, starts, root) {
+        return Examined::Refused(Refusal::TooManyBinds(root as u8));
+    }
+    Examined::Nodes(n)
 }

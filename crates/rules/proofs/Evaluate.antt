@@ -5,11 +5,10 @@ use Rattle.bits.specs.Bits.{total, bit, number}
 use Rattle.bits.specs.Whole.{twosComplement, modulo, word, sameZ}
 use Rattle.description.specs.Limits.{mostBytes, mostNodes, mostBinds}
 use Rattle.description.specs.Nodes.{children, isNumber, mustBeNumbers}
-use Rattle.description.specs.Kinds.{byte, isWidth, isSignedWidth, relations, isRelation, relation, operators, isOperator, operator, isOperand, operand, unitRow, kinds}
+use Rattle.description.specs.Kinds.{byte, isWidth, isSignedWidth, relations, isRelation, relation, operators, isOperator, operator, isOperand, operand, unitRow, kinds, rowOf}
 use Rattle.description.specs.Trees.{tree, treesAfter, rootTree}
 use Rattle.description.specs.Binds.{needsOf, needs, binds}
-use Rattle.description.specs.Refusals.{refusalNumber, refusalNode}
-use Rattle.description.specs.Check.{refuseIf, firstOf, isIn, someNotSmaller, someNamedBefore, someNoNumber, namedBy, neverNamed, rowAt, nodeAt, nodeEnd, nodeRefusal, nodesFrom, treeRefusal, meaning}
+use Rattle.description.specs.Check.{refuseIf, firstOf, isIn, someNotSmaller, someNamedBefore, someNoNumber, namedBy, neverNamed, nodeAt, nodeEnd, nodeRefusal, nodesFrom, treeRefusal, meaning}
 use Rattle.rules.specs.Entries.{reading, any}
 use Rattle.rules.specs.Numbers.{valueOf, holds, result}
 use Rattle.rules.specs.Rounds.{ended, part, firstRound, nextRound, roundsAfter, rounds}
@@ -28,9 +27,9 @@ pub record Evaluated : Type 0 where
 unfoldable pub evaluated : (description input : List ℕ) → (values descriptors : ℕ) → Evaluated
 unfolding total bit number twosComplement modulo word sameZ
     mostBytes mostNodes mostBinds children isNumber mustBeNumbers
-    byte isWidth isSignedWidth relations isRelation relation operators isOperator operator isOperand operand unitRow kinds
-    tree treesAfter rootTree needsOf needs binds refusalNumber refusalNode
-    refuseIf firstOf isIn someNotSmaller someNamedBefore someNoNumber namedBy neverNamed rowAt nodeAt nodeEnd nodeRefusal nodesFrom treeRefusal meaning
+    byte isWidth isSignedWidth relations isRelation relation operators isOperator operator isOperand operand unitRow kinds rowOf
+    tree treesAfter rootTree needsOf needs binds
+    refuseIf firstOf isIn someNotSmaller someNamedBefore someNoNumber namedBy neverNamed nodeAt nodeEnd nodeRefusal nodesFrom treeRefusal meaning
     reading any valueOf holds result codeFor twoSides ended part firstRound nextRound roundsAfter rounds firstStart readBits doneAt read
     valueWords descriptorWords room table stated mostInput refusing succeeding outcome
 evaluated description input values descriptors =

@@ -1,5 +1,4 @@
 -- The laws of the definitions in specs/, and the cases that are computed.
-pub mod Choice
 pub mod Evaluate
 pub mod Cases
 pub mod FittingCases

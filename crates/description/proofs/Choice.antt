@@ -1,5 +1,5 @@
 -- What holds whichever way a test, or a search, turns out.
-use mathlib.Core.Bool.{Bool, true, false, false≢true, _||_}
+use mathlib.Core.Bool.{Bool, true, false, _||_, true≢false, false≢true}
 use mathlib.Core.Option.{Option, none, some}
 use mathlib.Core.Path.{_≡_, refl}
 
@@ -11,6 +11,15 @@ or-left false b e = absurd (false≢true e)
 pub or-right : (a b : Bool) → b ≡ true → (a || b) ≡ true
 or-right true b e = refl
 or-right false b e = e
+
+-- both halves of one that failed
+pub or-left-false : (a b : Bool) → (a || b) ≡ false → a ≡ false
+or-left-false true b e = absurd (true≢false e)
+or-left-false false b e = refl
+
+pub or-right-false : (a b : Bool) → (a || b) ≡ false → b ≡ false
+or-right-false true b e = absurd (true≢false e)
+or-right-false false b e = e
 
 -- a test, with what it says
 pub either-way : (t : Bool) {X : Type 0} → (t ≡ true → X) → (t ≡ false → X) → X

@@ -1,0 +1,16 @@
+-- What the proofs of several functions, and of the crates above, use.
+pub mod Choice
+mod Ranges
+mod Bodies
+mod Children
+mod Fields
+mod Firsts
+mod Refusing
+mod Marking
+mod Numbered
+mod Parsing
+mod Trees
+mod Walking
+mod Standing
+mod Judging
+mod Examining

@@ -1,4 +1,5 @@
-/* Runs the check over the refusals and acceptances of document 01 and over many more, and compares. */
+/* Runs the check over the refusals and acceptances of document 01 and over many more, and compares. With a directory as its argument it
+ * also writes each description to a file there, named NUMBER-REFUSAL-NODE, for the program to be run over. */
 #include "rippleshrug.h"
 
 #include <stdio.h>
@@ -157,10 +158,23 @@ static const struct expected cases[] = {
 };
 
 static unsigned failures, compared;
+static const char *directory;
+
+static void write_file(const uint8_t *desc, size_t length, unsigned refusal, unsigned node) {
+    char name[1000];
+    FILE *file;
+    snprintf(name, sizeof name, "%s/%03u-%u-%u", directory, compared, refusal, node);
+    file = fopen(name, "wb");
+    if (file == NULL || (length > 0 && fwrite(desc, 1, length, file) != length) || fclose(file) != 0) {
+        perror(name);
+        exit(2);
+    }
+}
 
 static void compare(const char *what, const uint8_t *desc, size_t length, unsigned refusal, unsigned node) {
     uint32_t answer = rippleshrug_check(desc, length);
     compared++;
+    if (directory != NULL) write_file(desc, length, refusal, node);
     if (answer == refusal + 256 * node) return;
     failures++;
     fprintf(stderr, "host: %s: %u with node %u was expected, and the answer is %u with node %u\n", what, refusal, node, (unsigned)rippleshrug_refusal_of(answer),
@@ -243,8 +257,9 @@ static void compare_built(void) {
     compare("32 binds", built, built_length, 4, 64);
 }
 
-int main(void) {
+int main(int argc, char **argv) {
     size_t n;
+    if (argc > 1) directory = argv[1];
     for (n = 0; n < sizeof cases / sizeof *cases; n++) compare_hex(&cases[n]);
     compare("a null pointer", NULL, 0, 1, 0);
     compare_repeated("no bytes", 0, 0, 1, 0);

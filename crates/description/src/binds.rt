@@ -1,5 +1,4 @@
 // How many binds a subtree needs around it, and how many stand around a node of it.
-use crate::MOST_NODES;
 use crate::kinds;
 use crate::places;
 ghost use mathlib.Core.Path.{_≡_};

@@ -1,5 +1,4 @@
 // The nodes of a description, found by where they begin.
-use crate::MOST_NODES;
 ghost use mathlib.Core.Path.{_≡_};
 ghost use Prim.Native.Nat.{_<_};
 ghost use Rattle.description.specs.Bodies.{childCount};

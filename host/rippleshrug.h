@@ -45,7 +45,7 @@ enum rippleshrug_refusal {
  * meanwhile, and is not null even where `length` is 0. */
 uint32_t rippleshrug_check_slice(const uint8_t *desc, size_t length);
 
-/* The same, which takes a null pointer for the empty description. */
+/* The same, which takes a null pointer for the empty description, whatever `length` is. */
 static inline uint32_t rippleshrug_check(const uint8_t *desc, size_t length) {
     static const uint8_t none = 0;
     return desc == NULL ? rippleshrug_check_slice(&none, 0) : rippleshrug_check_slice(desc, length);

@@ -174,7 +174,7 @@ static void write_file(const uint8_t *desc, size_t length, unsigned refusal, uns
 static void compare(const char *what, const uint8_t *desc, size_t length, unsigned refusal, unsigned node) {
     uint32_t answer = rippleshrug_check(desc, length);
     compared++;
-    if (directory != NULL) write_file(desc, length, refusal, node);
+    if (directory != NULL) write_file(desc, desc == NULL ? 0 : length, refusal, node);
     if (answer == refusal + 256 * node) return;
     failures++;
     fprintf(stderr, "host: %s: %u with node %u was expected, and the answer is %u with node %u\n", what, refusal, node, (unsigned)rippleshrug_refusal_of(answer),
@@ -262,6 +262,7 @@ int main(int argc, char **argv) {
     if (argc > 1) directory = argv[1];
     for (n = 0; n < sizeof cases / sizeof *cases; n++) compare_hex(&cases[n]);
     compare("a null pointer", NULL, 0, 1, 0);
+    compare("a null pointer with a length", NULL, 2, 1, 0);
     compare_repeated("no bytes", 0, 0, 1, 0);
     compare_repeated("64 units", 0x00, 64, 9, 0);
     compare_repeated("65 units", 0x00, 65, 4, 64);

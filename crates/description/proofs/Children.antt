@@ -7,7 +7,7 @@ use native.Mathlib.Nat.{add-zero, sub-zero}
 use native.Mathlib.Omega.{arith}
 use lib.Dec.{leb}
 use borrow.Author.Tests.{leb-false, lt-leb}
-use Rattle.description.specs.Bodies.{childrenAt}
+use Rattle.description.specs.Inner.Children.{childrenAt}
 use Rattle.description.specs.Check.{someNotSmaller}
 use Rattle.description.specs.Kinds.{byte}
 use Rattle.description.proofs.Choice.{or-left-false, or-right-false}

@@ -11,7 +11,7 @@ use borrow.Author.Tests.{eq-eqb, ne-eqb, lt-ltb, le-ltb, ltb-false}
 use Rattle.description.specs.Binds.{needs, binds}
 use Rattle.description.specs.Check.{Parsed, parsed, stopped, nodesFrom, treeRefusal, Meaning, accepted, refused, meaning, verdict, checked}
 use Rattle.description.specs.Examine.{examined, startsAfter, Readable}
-use Rattle.description.specs.Steps.{judged, counted, Whole}
+use Rattle.description.specs.Inner.Steps.{judged, counted, Whole}
 use Rattle.description.specs.Limits.{mostBytes, mostNodes, mostBinds}
 use Rattle.description.specs.Nodes.{Node}
 use Rattle.description.specs.Places.{start, startsTo, nodesTo, standing, placedStarts}

@@ -9,9 +9,9 @@ use lib.ListN.{length}
 use borrow.Author.Tests.{lt-ltb, le-ltb}
 use Rattle.description.specs.Binds.{needs, binds}
 use Rattle.description.specs.Check.{refuseIf, firstOf, namedBy, neverNamed, treeRefusal}
-use Rattle.description.specs.Steps.{judged, Whole}
+use Rattle.description.specs.Inner.Steps.{judged, Whole}
 use Rattle.description.specs.Limits.{mostBytes, mostBinds}
-use Rattle.description.specs.Names.{unmarked}
+use Rattle.description.specs.Inner.Names.{unmarked}
 use Rattle.description.specs.Nodes.{Node}
 use Rattle.description.specs.Places.{nodesTo, treeOf, Placed}
 use Rattle.description.specs.Trees.{rootTree}

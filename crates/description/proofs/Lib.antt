@@ -3,7 +3,7 @@ pub mod Choice
 mod Ranges
 mod Bodies
 mod Children
-mod Fields
+mod Rows
 mod Firsts
 mod Refusing
 mod Marking
@@ -11,6 +11,7 @@ mod Numbered
 mod Parsing
 mod Trees
 mod Walking
+pub mod Visiting
 mod Standing
 mod Judging
 mod Examining

@@ -12,7 +12,7 @@ use lib.Seq.{getD-set-same, getD-set-other}
 use borrow.Author.Tests.{leb-false, eq-eqb, ne-eqb}
 use Rattle.description.specs.Check.{isIn, someNotSmaller, someNamedBefore, namedBy, neverNamed}
 use Rattle.description.specs.Limits.{mostNodes}
-use Rattle.description.specs.Names.{Marks, someMarked, marked, unmarked}
+use Rattle.description.specs.Inner.Names.{Marks, someMarked, marked, unmarked}
 use Rattle.description.specs.Nodes.{Node, children}
 use Rattle.description.specs.declared.Refusal.{Refusal}
 use Rattle.description.specs.declared.Refusal.the-variants.{NeverNamed}

@@ -13,10 +13,10 @@ use lib.Seq.{sets, sets-eq, length-sets}
 use borrow.Author.Tests.{lt-ltb, le-ltb}
 use Rattle.description.specs.Check.{nodeAt, nodeEnd, nodeRefusal, namedBy, Parsed, parsed, stopped, nodesFrom}
 use Rattle.description.specs.Limits.{mostNodes}
-use Rattle.description.specs.Names.{Marks}
+use Rattle.description.specs.Inner.Names.{Marks}
 use Rattle.description.specs.Nodes.{Node, children}
 use Rattle.description.specs.Places.{start, startsTo, nodesTo, Stands, Found, standing, placedStarts}
-use Rattle.description.specs.Steps.{Whole, stepOf, counted}
+use Rattle.description.specs.Inner.Steps.{Whole, stepOf, counted}
 use Rattle.description.specs.Refusals.{refusalNode}
 use Rattle.description.specs.declared.Refusal.{Refusal}
 use Rattle.description.specs.declared.Refusal.the-variants.{TooManyNodes}

@@ -1,20 +1,21 @@
 -- A walk over a node's children keeps the most of what they say: what a node needs, and the binds in it, are found by such walks.
-use Prim.Native.Nat.{ℕ, suc, _+_, _-_, _≤_, _<_, max}
+use Prim.Native.Nat.{ℕ, zero, suc, _+_, _-_, _≤_, _<_, max}
 use mathlib.Core.Bool.{Bool, true, false, cond, _&&_}
 use mathlib.Core.List.{List, [], _∷_}
 use mathlib.Core.Path.{_≡_, refl, sym, ap, subst, _∙_}
-use native.Mathlib.Nat.{sub-zero}
+use native.Mathlib.Nat.{add-zero, zero-add, sub-zero}
 use native.Mathlib.Omega.{arith}
 use lib.Dec.{eqb, lit≤}
 use borrow.Author.Tests.{ne-eqb}
 use Rattle.description.specs.Binds.{needs, binds}
-use Rattle.description.specs.Bodies.{childCounts, childCount, childrenAt, binding, ownNeeds}
-use Rattle.description.specs.Kinds.{unitRow, kinds, rowOf}
-use Rattle.description.specs.Places.{start, kindOf, childOf}
+use Rattle.description.specs.Bodies.{childCounts, childCount}
+use Rattle.description.specs.Inner.Children.{childrenAt, binding, ownNeeds}
+use Rattle.description.specs.Kinds.{byte, unitRow, kinds, rowOf}
+use Rattle.description.specs.Places.{start, kindOf, fieldOf}
 use Rattle.description.specs.Trees.{Tree, tree}
 use Rattle.description.proofs.Bodies.{row-past, no-children, body-bytes}
 use Rattle.description.proofs.Children.{children-all, children-next, children-none}
-use Rattle.description.proofs.Fields.{count-bytes}
+use Rattle.description.proofs.Rows.{count-bytes}
 use Rattle.description.proofs.Ranges.{by-kind}
 
 module _ (kind : ℕ) (step : ℕ → ℕ → ℕ) (value : ℕ → ℕ) where
@@ -22,6 +23,29 @@ module _ (kind : ℕ) (step : ℕ → ℕ → ℕ) (value : ℕ → ℕ) where
   pub walk : ℕ → ℕ → List ℕ → ℕ
   walk most j [] = most
   walk most j (c ∷ cs) = walk (max most (step (value c) (binding kind j))) (j + 1) cs
+
+-- the walk over a node's children keeps what it has, and what each of them says
+module _ (d : List ℕ) (kind : ℕ) (step : ℕ → ℕ → ℕ) (value : ℕ → ℕ) where
+  pub walk-keeps : (most j p k : ℕ) → most ≤ walk kind step value most j (childrenAt d p k)
+  unfolding walk childrenAt
+  walk-keeps most j p zero = omega arith
+  walk-keeps most j p (suc k) = omega (arith, walk-keeps (max most (step (value (byte d p)) (binding kind j))) (j + 1) (p + 1) k)
+
+  walk-has : (most j p k i : ℕ) → i < k → step (value (byte d (p + i))) (binding kind (j + i)) ≤ walk kind step value most j (childrenAt d p k)
+  unfolding walk childrenAt
+  walk-has most j p zero i h = absurd (omega arith)
+  walk-has most j p (suc k) zero h =
+      rw (add-zero p, add-zero j)
+      (omega (arith, walk-keeps (max most (step (value (byte d p)) (binding kind j))) (j + 1) (p + 1) k))
+  walk-has most j p (suc k) (suc i) h =
+      let bytes : p + suc i ≡ p + 1 + i = omega arith in
+      let places : j + suc i ≡ j + 1 + i = omega arith in
+      rw (bytes, places) (walk-has (max most (step (value (byte d p)) (binding kind j))) (j + 1) (p + 1) k i (omega arith))
+
+  pub walk-child : (most p k i : ℕ) → i < k → step (value (byte d (p + i))) (binding kind i) ≤ walk kind step value most 0 (childrenAt d p k)
+  walk-child most p k i h =
+      subst (λ (j : ℕ). step (value (byte d (p + i))) (binding kind j) ≤ walk kind step value most 0 (childrenAt d p k)) (zero-add i)
+      (walk-has most 0 p k i h)
 
 -- a node puts one bind around a child at most
 pub binding-small : (kind j : ℕ) → binding kind j ≤ 1
@@ -59,8 +83,8 @@ module _ (d : List ℕ) (node : ℕ) (step : ℕ → ℕ → ℕ) (value : ℕ �
     pub few-children : children ≤ 12
     few-children = omega (arith, l .children-are, count-bytes kind, body-bytes kind)
 
-    pub walk-next : (more : ℕ) → j < children → more ≡ max most (step (value (childOf d node j)) (binding kind j)) → Left kind children more (j + 1)
-    unfolding walk childOf
+    pub walk-next : (more : ℕ) → j < children → more ≡ max most (step (value (fieldOf d node j)) (binding kind j)) → Left kind children more (j + 1)
+    unfolding walk fieldOf
     walk-next more h e =
         record {
           kind-is = l .kind-is;

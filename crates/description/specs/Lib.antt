@@ -6,10 +6,9 @@ pub mod Trees
 pub mod Binds
 pub mod Refusals
 pub mod Check
--- What the check leaves for the reader.
+-- What callers are promised besides: what the check leaves for the reader, and what a kind byte says.
+pub mod Bodies
 pub mod Places
 pub mod Examine
 -- What the functions of the check promise each other.
-pub mod Bodies
-pub mod Names
-pub mod Steps
+pub mod Inner

@@ -5,12 +5,14 @@ use mathlib.Core.Option.{none}
 use mathlib.Core.Path.{_≡_}
 use lib.ListN.{length, getD}
 use lib.Seq.{sets}
-use Rattle.description.specs.Kinds.{byte}
+use Rattle.description.specs.Kinds.{byte, operand}
 use Rattle.description.specs.Limits.{mostBytes, mostNodes}
-use Rattle.description.specs.Nodes.{Node}
+use Rattle.description.specs.Nodes.{Node, Operand, constant, bound}
 use Rattle.description.specs.Check.{nodeAt, nodeEnd, nodeRefusal, Parsed, parsed, stopped, nodesFrom}
 use Rattle.description.specs.Refusals.{refusalNode}
 use Rattle.description.specs.Trees.{Tree, rootTree}
+use Rattle.description.specs.declared.places.Operand as answers
+use Rattle.description.specs.declared.places.Operand.the-variants.{Constant, Bound}
 
 module _ (desc : List ℕ) where
   -- "Nodes stand one after another, numbered from 0": where node k begins.
@@ -28,12 +30,16 @@ module _ (desc : List ℕ) where
   nodesTo zero = []
   nodesTo (suc n) = nodesTo n ++ (nodeAt desc (start n) ∷ [])
 
-  -- The kind byte of node k, and its child at place j of its body.
+  -- The kind byte of node k, and byte j of its body: a child, a width, a relation or an operator.
   unfoldable pub kindOf : ℕ → ℕ
   kindOf k = byte desc (start k)
 
-  unfoldable pub childOf : ℕ → ℕ → ℕ
-  childOf k j = byte desc (start k + 1 + j)
+  unfoldable pub fieldOf : ℕ → ℕ → ℕ
+  fieldOf k j = byte desc (start k + 1 + j)
+
+  -- The operand whose five bytes begin at byte j of the body of node k.
+  unfoldable pub operandOf : ℕ → ℕ → Operand
+  operandOf k j = operand desc (start k + 1 + j)
 
   -- The tree of node k: the root of the nodes up to it.
   unfoldable pub treeOf : ℕ → Tree
@@ -49,6 +55,11 @@ module _ (desc : List ℕ) where
     pub room : length starts ≡ mostNodes
     pub placed : (k : ℕ) → k < n → getD starts k 0 ≡ start k
     pub stand : (k : ℕ) → k < n → Stands k
+
+-- The operand that an answer says.
+abbrev pub meant : answers.Operand → Operand
+meant (Constant z) = constant z
+meant (Bound k) = bound k
 
 -- What is known where a node is visited: it is among those that a description may have, and it and all before it stand.
 pub record Placed (desc starts : List ℕ) (node : ℕ) : Type 0 where

@@ -5,7 +5,7 @@ ghost use mathlib.Core.Path.{_≡_};
 ghost use Prim.Native.Nat.{_+_, _-_, _≤_, max};
 ghost use lib.ListN.{length};
 ghost use Rattle.description.specs.Binds.{needsOf, needs, binds};
-ghost use Rattle.description.specs.Bodies.{ownNeeds, binding};
+ghost use Rattle.description.specs.Inner.Children.{ownNeeds, binding};
 ghost use Rattle.description.specs.Kinds.{rowOf, operand};
 ghost use Rattle.description.specs.Limits.{mostBytes};
 ghost use Rattle.description.specs.Places.{treeOf, Placed};

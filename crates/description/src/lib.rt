@@ -1,9 +1,10 @@
 // A description's bytes: refusals, and the check.
 mod binds;
-mod kinds;
+mod fields;
+pub mod kinds;
 mod names;
 mod nodes;
-mod places;
+pub mod places;
 pub mod refusals;
 
 ghost use mathlib.Core.Path.{_≡_};
@@ -11,7 +12,7 @@ ghost use Prim.Native.Nat.{ℕ, _≤_, _<_};
 ghost use lib.ListN.{length};
 ghost use Rattle.description.specs.Check.{checked};
 ghost use Rattle.description.specs.Examine.{examined, startsAfter, Readable};
-ghost use Rattle.description.specs.Steps.{judged, Whole};
+ghost use Rattle.description.specs.Inner.Steps.{judged, Whole};
 ghost use Rattle.description.specs.Limits.{mostBytes};
 ghost use Rattle.description.specs.Places.{nodesTo};
 

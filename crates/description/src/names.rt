@@ -4,10 +4,10 @@ ghost use mathlib.Core.Bool.{true, false};
 ghost use mathlib.Core.Path.{_≡_};
 ghost use Prim.Native.Nat.{_+_, _≤_};
 ghost use lib.ListN.{length};
-ghost use Rattle.description.specs.Bodies.{childrenAt};
+ghost use Rattle.description.specs.Inner.Children.{childrenAt};
 ghost use Rattle.description.specs.Check.{someNotSmaller};
 ghost use Rattle.description.specs.Limits.{mostNodes};
-ghost use Rattle.description.specs.Names.{someMarked, marked, unmarked};
+ghost use Rattle.description.specs.Inner.Names.{someMarked, marked, unmarked};
 
 // Whether one of the k children that stand from byte i on is not smaller than node n.
 pub fn some_not_smaller(desc: &[u8], i: usize, k: usize, n: usize) -> bool

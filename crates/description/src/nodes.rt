@@ -1,6 +1,7 @@
 // Node by node from the front.
 use crate::MOST_NODES;
 use crate::Refusal;
+use crate::fields;
 use crate::kinds;
 use crate::names;
 use crate::places;
@@ -12,10 +13,10 @@ ghost use Prim.Native.Nat.{ℕ, _≤_, _<_};
 ghost use lib.ListN.{length};
 ghost use Rattle.description.specs.Check.{someNotSmaller, someNoNumber, namedBy, nodeAt, nodeEnd, nodeRefusal, nodesFrom};
 ghost use Rattle.description.specs.Limits.{mostBytes, mostNodes};
-ghost use Rattle.description.specs.Names.{Marks};
+ghost use Rattle.description.specs.Inner.Names.{Marks};
 ghost use Rattle.description.specs.Nodes.{children, mustBeNumbers};
 ghost use Rattle.description.specs.Places.{nodesTo, Found, placedStarts};
-ghost use Rattle.description.specs.Steps.{Whole, counted, stepOf};
+ghost use Rattle.description.specs.Inner.Steps.{Whole, counted, stepOf};
 
 // What a parse finds: how many nodes there are, or the refusal at which it stops.
 pub enum Parsed {
@@ -73,7 +74,7 @@ fn node(desc: &[u8], at: usize, n: usize, starts: &[usize], named: &mut [bool; M
     if desc.len() < end {
         return Step::Stop(Refusal::BodyCutShort(number));
     }
-    if !kinds::listed(desc, kind, i) {
+    if !fields::listed(desc, kind, i) {
         return Step::Stop(Refusal::NotListed(number));
     }
     if names::some_not_smaller(desc, i, children, n) {

@@ -4,7 +4,7 @@ use mathlib.Core.Path.{_≡_, sym, subst, _∙_}
 use Prim.Native.Nat.{ℕ, _-_, _≤_, _<_}
 use native.Mathlib.Omega.{arith}
 use Rattle.description.specs.Binds as B
-use Rattle.description.specs.Names.{unmarked}
+use Rattle.description.specs.Inner.Names.{unmarked}
 use Rattle.description.specs.Places.{treeOf}
 use Rattle.description.specs.declared.names.Unnamed.the-variants.{Nothing}
 use Rattle.description.specs.Limits.{mostNodes, mostBinds}

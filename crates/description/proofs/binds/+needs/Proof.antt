@@ -5,7 +5,7 @@ use native.Mathlib.Omega.{arith}
 use borrow.Fn.Kinds.{In}
 use borrow.Fn.PlainCycle.{Measures, is, falls, and}
 use Rattle.description.specs.Binds.{needs}
-use Rattle.description.specs.Bodies.{binding}
+use Rattle.description.specs.Inner.Children.{binding}
 use Rattle.description.specs.Limits.{mostBytes, mostNodes}
 use Rattle.description.specs.Places.{treeOf}
 use Rattle.description.proofs.Standing.{begins, kind-inside, body-inside, smaller-placed, needs-here}

@@ -1,6 +1,6 @@
 -- The two tests are those of the definition.
 use borrow.Author.Tests.{eq-eqb, ne-eqb}
-use Rattle.description.specs.Bodies.{binding}
+use Rattle.description.specs.Inner.Children.{binding}
 use Rattle.description.proofs.binds.binding.Statement.{statement}
 use Rattle.description.proofs.binds.binding.Tie as tie
 

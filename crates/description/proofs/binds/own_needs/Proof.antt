@@ -7,7 +7,7 @@ use Prim.Native.Nat.{ℕ, _+_, _≤_, max}
 use native.Mathlib.Omega.{arith}
 use lib.Dec.{lit≤}
 use lib.ListN.{length}
-use Rattle.description.specs.Bodies.{ownNeeds}
+use Rattle.description.specs.Inner.Children.{ownNeeds}
 use Rattle.description.specs.Kinds.{kinds, rowOf}
 use Rattle.description.proofs.binds.own_needs.Statement.{statement}
 use Rattle.description.proofs.binds.own_needs.Tie as tie

@@ -4,9 +4,6 @@ use mathlib.Core.Path.{sym, _∙_}
 use Rattle.description.proofs.Bodies.{is-known, is-unknown, no-children}
 use Rattle.description.proofs.kinds.children_of.Statement.{statement}
 use Rattle.description.proofs.kinds.children_of.Tie as tie
-use Rattle.description.proofs.kinds.children_of.Reads as reads
-use Rattle.description.proofs.kinds.children_of.Lts as lts
-use Rattle.description.proofs.kinds.body_of.Reads as body-of-reads
 
 body-of-requires : tie.Need-body-of-requires
 body-of-requires c κs = search needs

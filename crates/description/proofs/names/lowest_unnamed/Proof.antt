@@ -9,12 +9,10 @@ use native.Mathlib.Numerals.{add-one}
 use native.Mathlib.Omega.{arith}
 use lib.ListN.{getD}
 use Rattle.description.specs.Limits.{mostNodes}
-use Rattle.description.specs.Names.{unmarked}
+use Rattle.description.specs.Inner.Names.{unmarked}
 use Rattle.description.specs.declared.names.Unnamed.the-variants.{Node, Nothing}
 use Rattle.description.proofs.names.lowest_unnamed.Statement.{statement}
 use Rattle.description.proofs.names.lowest_unnamed.Tie as tie
-use Rattle.description.proofs.names.lowest_unnamed.Reads as reads
-use Rattle.description.proofs.names.lowest_unnamed.Lts as lts
 
 module _ (named : List Bool) (root i : ℕ) (h : i < root) where
   one-more : root - i ≡ suc (root - (i + 1))

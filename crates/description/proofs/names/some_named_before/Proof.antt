@@ -7,17 +7,15 @@ use Prim.Native.Nat.{ℕ, _+_, _-_, _≤_, _<_}
 use native.Mathlib.Omega.{arith}
 use lib.Dec.{leb}
 use lib.ListN.{getD, set}
-use Rattle.description.specs.Bodies.{childrenAt}
+use Rattle.description.specs.Inner.Children.{childrenAt}
 use Rattle.description.specs.Check.{someNotSmaller}
 use Rattle.description.specs.Kinds.{byte}
 use Rattle.description.specs.Limits.{mostNodes}
-use Rattle.description.specs.Names.{someMarked, marked}
+use Rattle.description.specs.Inner.Names.{someMarked, marked}
 use Rattle.description.proofs.Children.{children-all, children-next, children-none}
 use Rattle.description.proofs.Choice.{or-left-false, or-right-false}
 use Rattle.description.proofs.names.some_named_before.Statement.{statement}
 use Rattle.description.proofs.names.some_named_before.Tie as tie
-use Rattle.description.proofs.names.some_named_before.Reads as reads
-use Rattle.description.proofs.names.some_named_before.Lts as lts
 
 -- what is left from j on, with the flags as they are, answers what the whole does
 record Left (d : List ℕ) (i k : ℕ) (named₀ named : List Bool) (j : ℕ) : Type 0 where

@@ -6,7 +6,7 @@ use mathlib.Core.Path.{_≡_, sym, ap, _∙_}
 use Prim.Native.Nat.{ℕ, _+_, _-_, _≤_, _<_}
 use native.Mathlib.Omega.{arith}
 use lib.ListN.{getD}
-use Rattle.description.specs.Bodies.{childrenAt}
+use Rattle.description.specs.Inner.Children.{childrenAt}
 use Rattle.description.specs.Check.{someNotSmaller}
 use Rattle.description.specs.Kinds.{byte}
 use Rattle.description.proofs.Children.{children-all, children-next, children-none}

@@ -8,14 +8,15 @@ use mathlib.Core.Path.{_≡_, sym, ap, subst, _∙_}
 use Prim.Native.Nat.{ℕ, _+_, _≤_, _<_}
 use native.Mathlib.Omega.{arith}
 use lib.ListN.{length}
-use Rattle.description.specs.Bodies.{childrenAt, bodyOf}
+use Rattle.description.specs.Bodies.{bodyOf}
+use Rattle.description.specs.Inner.Children.{childrenAt}
 use Rattle.description.specs.Check.{someNotSmaller, namedBy, nodeAt, nodeEnd, nodeRefusal}
 use Rattle.description.specs.Kinds.{byte, kinds}
 use Rattle.description.specs.Limits.{mostBytes, mostNodes}
-use Rattle.description.specs.Names.{Marks, someMarked, marked}
+use Rattle.description.specs.Inner.Names.{Marks, someMarked, marked}
 use Rattle.description.specs.Nodes.{Node, children}
 use Rattle.description.specs.Places.{nodesTo}
-use Rattle.description.specs.Steps.{stepOf}
+use Rattle.description.specs.Inner.Steps.{stepOf}
 use Rattle.description.specs.declared.Refusal.{Refusal}
 use Rattle.description.specs.declared.Refusal.the-variants.{UnknownKind, BodyCutShort, NotListed, ChildNotSmaller, ChildNamedBefore, NumberNodeWanted}
 use Rattle.description.specs.declared.kinds.Body.the-variants.{Known, Unknown}
@@ -23,7 +24,7 @@ use Rattle.description.specs.declared.nodes.Step.{Step}
 use Rattle.description.specs.declared.nodes.Step.the-variants.{Next, Stop}
 use Rattle.description.proofs.Bodies.{is-known, is-unknown, body-bytes}
 use Rattle.description.proofs.Children.{smaller-still}
-use Rattle.description.proofs.Fields.{children-at, count-bytes}
+use Rattle.description.proofs.Rows.{children-at, count-bytes}
 use Rattle.description.proofs.Marking.{tested, marking}
 use Rattle.description.proofs.Numbered.{nodes-length}
 use Rattle.description.proofs.Refusing.{unknown, cut, unlisted, notSmaller, namedBefore, refuse-2, refuse-3, refuse-5, refuse-6, refuse-7, refuse-8, refuse-none}

@@ -11,9 +11,6 @@ use Rattle.description.proofs.Refusing.{gives-node}
 use Rattle.description.specs.declared.Refusal.the-variants.{TooManyNodes}
 use Rattle.description.proofs.nodes.parse.Statement.{statement}
 use Rattle.description.proofs.nodes.parse.Tie as tie
-use Rattle.description.proofs.nodes.parse.Reads as reads
-use Rattle.description.proofs.nodes.parse.Lts as lts
-use Rattle.description.proofs.nodes.node.Reads as node-reads
 
 abbrev Inv-loop : tie.InvT-loop
 Inv-loop desc starts₀ named₀ at₀ n₀ starts named at n = Going desc starts₀ starts named at n

@@ -15,7 +15,7 @@ use Rattle.description.specs.Kinds.{byte}
 use Rattle.description.specs.Limits.{mostBytes, mostNodes}
 use Rattle.description.specs.Nodes.{children, mustBeNumbers}
 use Rattle.description.specs.Places.{start, nodesTo, kindOf, Found, Placed}
-use Rattle.description.proofs.Fields.{number-at, wants-first, wants-none, child-smaller, count-bytes}
+use Rattle.description.proofs.Rows.{number-at, wants-first, wants-none, child-smaller, count-bytes}
 use Rattle.description.proofs.Numbered.{nodes-at}
 use Rattle.description.proofs.Standing.{found-placed}
 use Rattle.description.proofs.nodes.some_no_number.Statement.{statement}

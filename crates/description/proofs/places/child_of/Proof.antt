@@ -1,59 +1,21 @@
--- `starts` has where the node begins, and the child stands inside its body.
+-- A child is a byte of the body, and smaller than its node.
 use borrow.Author.Needs.{needs}
-use mathlib.Core.Path.{sym, ap, subst}
-use Prim.Native.Nat.{ℕ, _+_, _<_}
-use native.Mathlib.Omega.{arith}
-use lib.ListN.{length, getD}
-use Rattle.description.specs.Kinds.{byte}
-use Rattle.description.specs.Limits.{mostBytes}
-use Rattle.description.specs.Places.{childOf}
-use Rattle.description.proofs.Standing.{begins, child-inside, child-below}
+use mathlib.Core.Path.{sym, subst}
+use Prim.Native.Nat.{ℕ, _<_}
+use Rattle.description.proofs.Standing.{child-field, child-below}
 use Rattle.description.proofs.places.child_of.Statement.{statement}
 use Rattle.description.proofs.places.child_of.Tie as tie
 
-mul-result : tie.Need-mul-result
-mul-result c = search needs
-
-shared-slice-read-result : tie.Need-shared-slice-read-result
-shared-slice-read-result c = search needs
-
--- the child's byte is inside the description
-module _ (c : tie.Start) where
-  inside : getD (c .args .starts .now) (c .args .node) 0 + 1 + c .args .j < length (c .args .desc .now)
-  inside = rw (begins _ _ _ (c .pre .0)) (child-inside _ _ _ (c .pre .0) (c .args .j) (c .pre .1))
-
-add-result : tie.Need-add-result
-unfolding mostBytes
-add-result c = omega (arith, c .before .pre .0 .short, inside (c .before))
-
-add-result-2 : tie.Need-add-result-2
-unfolding mostBytes
-add-result-2 c = omega (arith, c .before .pre .0 .short, inside (c .before))
-
-shared-slice-read-result-2 : tie.Need-shared-slice-read-result-2
-shared-slice-read-result-2 c = inside (c .before .before)
+field-of-requires : tie.Need-field-of-requires
+field-of-requires c κs = (c .before .before .pre .0, child-field _ _ _ (c .before .before .pre .0) (c .before .before .args .j) (c .before .before .pre .1))
 
 cast-result : tie.Need-cast-result
-cast-result c =
-    let a = c .before .before .args in
-    omega (arith, c .shared-slice-known2 .given (getD (a .starts .now) (a .node) 0 + 1 + a .j))
+cast-result c = search needs
 
 returns : tie.Need-returns
-unfolding childOf byte
 returns c =
-    let s = c .before .before in
-    let a = s .args in
-    let is = ap (λ (p : ℕ). byte (a .desc .now) (p + 1 + a .j)) (begins _ _ _ (s .pre .0)) in
-    (is, subst (λ (k : ℕ). k < a .node) (sym is) (child-below _ _ _ (s .pre .0) (a .j) (s .pre .1)))
+    let s = c .before .before .before in
+    (c .field-of .ensures, subst (λ (k : ℕ). k < s .args .node) (sym (c .field-of .ensures)) (child-below _ _ _ (s .pre .0) (s .args .j) (s .pre .1)))
 
 pub child-of-spec : {M : Type 1} → statement M
-child-of-spec =
-    tie.close
-    (tie.spec
-    mul-result
-    shared-slice-read-result
-    add-result
-    add-result-2
-    shared-slice-read-result-2
-    cast-result
-    returns)
+child-of-spec = tie.close (tie.spec field-of-requires cast-result returns)

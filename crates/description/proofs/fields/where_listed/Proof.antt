@@ -5,8 +5,8 @@ use Prim.Native.Nat.{_+_}
 use native.Mathlib.Omega.{arith}
 use lib.ListN.{getD}
 use Rattle.description.specs.Kinds.{byte, relations, isRelation, kinds, rowOf}
-use Rattle.description.proofs.kinds.where_listed.Statement.{statement}
-use Rattle.description.proofs.kinds.where_listed.Tie as tie
+use Rattle.description.proofs.fields.where_listed.Statement.{statement}
+use Rattle.description.proofs.fields.where_listed.Tie as tie
 
 add-if1 : tie.Need-add-if1
 add-if1 c = search needs

@@ -8,8 +8,8 @@ use Prim.Native.Nat.{ℕ, _+_}
 use lib.Dec.{eqb}
 use lib.ListN.{getD}
 use Rattle.description.specs.Kinds.{byte, isOperand}
-use Rattle.description.proofs.kinds.operand.Statement.{statement}
-use Rattle.description.proofs.kinds.operand.Tie as tie
+use Rattle.description.proofs.fields.operand.Statement.{statement}
+use Rattle.description.proofs.fields.operand.Tie as tie
 
 module _ (d : List ℕ) (i : ℕ) where
   abbrev b : ℕ → ℕ

@@ -7,7 +7,8 @@ use mathlib.Core.Path.{_≡_, refl, sym, ap, _∙_}
 use native.Mathlib.Omega.{arith}
 use lib.Dec.{lit≤}
 use borrow.Author.Tests.{ne-eqb}
-use Rattle.description.specs.Bodies.{childCounts, childCount, childrenAt, isNumberKind}
+use Rattle.description.specs.Bodies.{childCounts, childCount, isNumberKind}
+use Rattle.description.specs.Inner.Children.{childrenAt}
 use Rattle.description.specs.Check.{someNotSmaller, nodeAt}
 use Rattle.description.specs.Kinds.{byte, unitRow, kinds, rowOf}
 use Rattle.description.specs.Nodes.{children, isNumber, mustBeNumbers}

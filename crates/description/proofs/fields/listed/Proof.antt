@@ -8,8 +8,8 @@ use native.Mathlib.Omega.{arith}
 use lib.ListN.{length}
 use Rattle.description.specs.Kinds.{byte, kinds, rowOf}
 use Rattle.description.proofs.Bodies.{free-listed}
-use Rattle.description.proofs.kinds.listed.Statement.{statement}
-use Rattle.description.proofs.kinds.listed.Tie as tie
+use Rattle.description.proofs.fields.listed.Statement.{statement}
+use Rattle.description.proofs.fields.listed.Tie as tie
 
 -- the body's room and what is listed, at the kind that the arm knows
 module _ {kind k : ℕ} (e : kind ≡ k) where

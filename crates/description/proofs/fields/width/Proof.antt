@@ -1,8 +1,8 @@
 -- The two tests are those of `isWidth`.
 use borrow.Author.Tests.{le-leb, lt-leb}
 use Rattle.description.specs.Kinds.{isWidth}
-use Rattle.description.proofs.kinds.width.Statement.{statement}
-use Rattle.description.proofs.kinds.width.Tie as tie
+use Rattle.description.proofs.fields.width.Statement.{statement}
+use Rattle.description.proofs.fields.width.Tie as tie
 
 returns : tie.Need-returns
 unfolding isWidth

@@ -8,8 +8,8 @@ use Prim.Native.Nat.{ℕ, _+_, _≤_, _<_}
 use native.Mathlib.Omega.{arith}
 use lib.ListN.{getD}
 use Rattle.description.specs.Kinds.{byte, isWidth, isOperand, operators, isOperator, kinds, rowOf}
-use Rattle.description.proofs.kinds.compute_listed.Statement.{statement}
-use Rattle.description.proofs.kinds.compute_listed.Tie as tie
+use Rattle.description.proofs.fields.compute_listed.Statement.{statement}
+use Rattle.description.proofs.fields.compute_listed.Tie as tie
 
 -- what each of the three tests before the last says, at the place after it
 module _ (d : List ℕ) (i : ℕ) where

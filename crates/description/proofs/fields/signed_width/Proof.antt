@@ -3,8 +3,8 @@ use mathlib.Core.Path.{sym, ap}
 use mathlib.Core.Logic.{⊎-elim, inl, inr}
 use borrow.Author.Tests.{ne-eqb}
 use Rattle.description.specs.Kinds.{isSignedWidth}
-use Rattle.description.proofs.kinds.signed_width.Statement.{statement}
-use Rattle.description.proofs.kinds.signed_width.Tie as tie
+use Rattle.description.proofs.fields.signed_width.Statement.{statement}
+use Rattle.description.proofs.fields.signed_width.Tie as tie
 
 returns : tie.Need-returns
 unfolding isSignedWidth

@@ -7,7 +7,7 @@ use mathlib.Core.Path.{_≡_}
 use lib.ListN.{length}
 use Rattle.description.specs.Check.{namedBy, Parsed, parsed, stopped, nodesFrom, treeRefusal}
 use Rattle.description.specs.Limits.{mostNodes}
-use Rattle.description.specs.Names.{Marks}
+use Rattle.description.specs.Inner.Names.{Marks}
 use Rattle.description.specs.Nodes.{Node}
 use Rattle.description.specs.Places.{start, nodesTo, Found}
 use Rattle.description.specs.declared.Examined as examined

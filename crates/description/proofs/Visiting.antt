@@ -1,0 +1,157 @@
+-- What a visitor of a node rests on: the tree that its kind byte makes of its body, the widths that are listed, and the binds that it and its
+-- children need and have around them.
+use Prim.Native.Nat.{ℕ, _+_, _-_, _≤_, _<_}
+use mathlib.Core.Bool.{true}
+use mathlib.Core.List.{List, [], _∷_}
+use mathlib.Core.Path.{_≡_, refl, sym, ap, subst, _∙_}
+use native.Mathlib.Nat.{add-zero}
+use native.Mathlib.Omega.{arith}
+use lib.Dec.{eqb, leb}
+use lib.ListN.{getD, List·getD-eq-default}
+use borrow.Author.Tests.{leb-true, eqb-true}
+use Rattle.description.specs.Binds.{needs, binds}
+use Rattle.description.specs.Bodies.{childCount}
+use Rattle.description.specs.Inner.Children.{binding, ownNeeds}
+use Rattle.description.specs.Kinds.{byte, isWidth, isSignedWidth, relation, operator, unitRow, kinds, rowOf}
+use Rattle.description.specs.Places.{start, kindOf, fieldOf, operandOf, treeOf, Placed}
+use Rattle.description.specs.Trees.{Tree, unit, bottom, bits, signed, then, bind, either, both, where′, sequence, compute, absorb, scan, tree}
+use Rattle.description.proofs.Bodies.{row-past}
+use Rattle.description.proofs.Choice.{and-left, and-right, either-way}
+use Rattle.description.proofs.Ranges.{by-kind}
+use Rattle.description.proofs.Standing.{listed-here, tree-here, needs-here, binds-here}
+use Rattle.description.proofs.Walking.{walk-keeps, walk-child}
+
+-- a width that is listed
+width-few : (w : ℕ) → isWidth w ≡ true → w ≤ 32
+unfolding isWidth
+width-few w e = leb-true w 32 (and-right (leb 1 w) (leb w 32) e)
+
+signed-few : (w : ℕ) → isSignedWidth w ≡ true → w ≤ 32
+unfolding isSignedWidth
+signed-few w e =
+    either-way (eqb w 8) (λ a. omega (arith, eqb-true w 8 a))
+    (λ a.
+    either-way (eqb w 16) (λ b. omega (arith, eqb-true w 16 b))
+    (λ b. omega (arith, eqb-true w 32 (sym (rw (a, b)) ∙ e))))
+
+module _ (d : List ℕ) (node : ℕ) where
+  -- the tree of the node's child at place j
+  abbrev pub childTree : ℕ → Tree
+  childTree j = treeOf d (fieldOf d node j)
+
+  -- the trees of a node of kinds 00 to 0C
+  abbrev treesAs : List Tree
+  treesAs =
+      unit node
+      ∷ bottom node
+      ∷ bits node (fieldOf d node 0)
+      ∷ signed node (fieldOf d node 0)
+      ∷ then node (childTree 0) (childTree 1)
+      ∷ bind node (childTree 0) (childTree 1)
+      ∷ either node (childTree 0) (childTree 1)
+      ∷ both node (childTree 0) (childTree 1)
+      ∷ where′ node (childTree 0) (relation (fieldOf d node 1)) (operandOf d node 2)
+      ∷ sequence node (childTree 0) (childTree 1) (childTree 2) (operandOf d node 3)
+      ∷ compute node (fieldOf d node 0) (operator (fieldOf d node 1)) (operandOf d node 2) (operandOf d node 7)
+      ∷ absorb node (childTree 0)
+      ∷ scan node (childTree 0)
+      ∷ []
+
+  abbrev pub treeAs : ℕ → Tree
+  treeAs kind = getD treesAs kind (unit node)
+
+  abbrev AsRow : ℕ → Type 0
+  AsRow kind = tree (treeOf d) node (rowOf kind .node d (start d node + 1)) ≡ treeAs kind
+
+  as-row : (kind : ℕ) → AsRow kind
+  unfolding tree rowOf kinds unitRow fieldOf operandOf
+  as-row =
+      by-kind AsRow (
+        refl,
+        (
+          refl,
+          (
+            at (bits node),
+            (
+              at (signed node),
+              (
+                pair then,
+                (
+                  pair bind,
+                  (
+                    pair either,
+                    (
+                      pair both,
+                      (
+                        at (λ b. where′ node (treeOf d b) (relation (fieldOf d node 1)) (operandOf d node 2)),
+                        (
+                          at (λ b. sequence node (treeOf d b) (childTree 1) (childTree 2) (operandOf d node 3)),
+                          (
+                            at (λ b. compute node b (operator (fieldOf d node 1)) (operandOf d node 2) (operandOf d node 7)),
+                            (at (λ b. absorb node (treeOf d b)), (at (λ b. scan node (treeOf d b)), tt)),
+                          ),
+                        ),
+                      ),
+                    ),
+                  ),
+                ),
+              ),
+            ),
+          ),
+        ),
+      )
+      past
+    where
+      -- the first byte of the body
+      at : (f : ℕ → Tree) → f (byte d (start d node + 1)) ≡ f (byte d (start d node + 1 + 0))
+      at f = ap (λ (i : ℕ). f (byte d i)) (sym (add-zero (start d node + 1)))
+
+      pair : (f : ℕ → Tree → Tree → Tree) → f node (treeOf d (byte d (start d node + 1))) (childTree 1) ≡ f node (childTree 0) (childTree 1)
+      pair f = at (λ b. f node (treeOf d b) (childTree 1))
+
+      past : (k : ℕ) → 13 ≤ k → AsRow k
+      past k h = rw (row-past k h) (sym (List·getD-eq-default treesAs (unit node) h))
+
+module _ (d starts : List ℕ) (node : ℕ) (p : Placed d starts node) where
+  pub tree-is : (kind : ℕ) → kindOf d node ≡ kind → treeOf d node ≡ treeAs d node kind
+  tree-is kind e = tree-here d starts node p ∙ as-row d node (kindOf d node) ∙ ap (treeAs d node) e
+
+  -- the binds that its child at place j has in it and needs around it, and those that its own operands need
+  module _ (j : ℕ) (h : j < childCount (kindOf d node)) where
+    pub child-binds : binds (childTree d node j) + binding (kindOf d node) j ≤ binds (treeOf d node)
+    unfolding fieldOf
+    child-binds =
+        rw (binds-here d starts node p)
+        (walk-child d (kindOf d node) _+_ (λ c. binds (treeOf d c)) 0 (start d node + 1) (childCount (kindOf d node)) j h)
+
+    pub child-needs : needs (childTree d node j) - binding (kindOf d node) j ≤ needs (treeOf d node)
+    unfolding fieldOf
+    child-needs =
+        rw (needs-here d starts node p)
+        (walk-child d (kindOf d node) _-_ (λ c. needs (treeOf d c)) (ownNeeds d (kindOf d node) (start d node + 1)) (start d node + 1) (childCount (kindOf d node)) j h)
+
+  pub own-needs : ownNeeds d (kindOf d node) (start d node + 1) ≤ needs (treeOf d node)
+  own-needs =
+      rw (needs-here d starts node p)
+      (walk-keeps d (kindOf d node) _-_ (λ c. needs (treeOf d c)) (ownNeeds d (kindOf d node) (start d node + 1)) 0 (start d node + 1) (childCount (kindOf d node)))
+
+  -- the widths of bits, signed and compute
+  listed-as : (kind : ℕ) → kindOf d node ≡ kind → rowOf kind .listed d (start d node + 1) ≡ true
+  listed-as kind e = subst (λ (k : ℕ). rowOf k .listed d (start d node + 1) ≡ true) e (listed-here d starts node p)
+
+  few : byte d (start d node + 1) ≤ 32 → fieldOf d node 0 ≤ 32
+  unfolding fieldOf
+  few h = rw (add-zero (start d node + 1)) h
+
+  pub bits-width : kindOf d node ≡ 2 → fieldOf d node 0 ≤ 32
+  unfolding rowOf kinds
+  bits-width e = few (width-few (byte d (start d node + 1)) (listed-as 2 e))
+
+  pub signed-width : kindOf d node ≡ 3 → fieldOf d node 0 ≤ 32
+  unfolding rowOf kinds
+  signed-width e = few (signed-few (byte d (start d node + 1)) (listed-as 3 e))
+
+  pub compute-width : kindOf d node ≡ 10 → fieldOf d node 0 ≤ 32
+  unfolding rowOf kinds
+  compute-width e =
+      few (width-few (byte d (start d node + 1)) (and-left _ _ (and-left _ _ (and-left _ _ (listed-as 10 e)))))

@@ -1,3 +1,2 @@
 -- Theorems on the rules.
-pub mod Within
-pub mod Spans
+pub mod Bounds

@@ -4,6 +4,8 @@ pub mod Cases
 pub mod FittingCases
 pub mod Rounds
 pub mod Tries
+pub mod Within
+pub mod Spans
 pub mod Heads
 pub mod Tables
 pub mod Outcomes

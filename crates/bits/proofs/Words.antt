@@ -43,6 +43,10 @@ unfolding modulo
 modulo-below w (pos n) = mod-lt n (pow-pos w)
 modulo-below w (negsuc n) = omega (arith, pow-pos w)
 
+pub word-below : (z : ℤ) → word z < 2 ^ 32
+unfolding word
+word-below = modulo-below 32
+
 -- a number from -2 ^ w to 2 ^ w - 1 is read back from its low w + 1 bits
 pub twos-modulo : (w : ℕ) (z : ℤ) → mag z < 2 ^ w → twosComplement (suc w) (modulo (suc w) z) ≡ z
 unfolding modulo

@@ -7,5 +7,6 @@ pub mod Tries
 pub mod Within
 pub mod Spans
 pub mod Heads
+pub mod Errors
 pub mod Tables
 pub mod Outcomes

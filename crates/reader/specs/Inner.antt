@@ -1,0 +1,3 @@
+-- What the functions of the reader promise each other: nothing here is needed to believe what callers are promised.
+pub mod Readings
+pub mod Windows

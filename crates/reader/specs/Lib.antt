@@ -1,0 +1,2 @@
+-- What the functions of the reader promise each other.
+pub mod Inner

@@ -1,6 +1,6 @@
 -- What the proofs of several functions, and of the crates above, use.
 pub mod Choice
-mod Ranges
+pub mod Ranges
 mod Bodies
 mod Children
 mod Rows

@@ -9,7 +9,7 @@ use native.Mathlib.Omega.{arith}
 use lib.Dec.{eqb, leb}
 use lib.ListN.{getD, List·getD-eq-default}
 use borrow.Author.Tests.{leb-true, eqb-true}
-use Rattle.description.specs.Binds.{needs, binds}
+use Rattle.description.specs.Binds.{needsOf, needs, binds}
 use Rattle.description.specs.Bodies.{childCount}
 use Rattle.description.specs.Inner.Children.{binding, ownNeeds}
 use Rattle.description.specs.Kinds.{byte, isWidth, isSignedWidth, relation, operator, unitRow, kinds, rowOf}
@@ -17,9 +17,9 @@ use Rattle.description.specs.Places.{start, kindOf, fieldOf, operandOf, 
 use Rattle.description.specs.Trees.{Tree, unit, bottom, bits, signed, then, bind, either, both, where′, sequence, compute, absorb, scan, tree}
 use Rattle.description.proofs.Bodies.{row-past}
 use Rattle.description.proofs.Choice.{and-left, and-right, either-way}
-use Rattle.description.proofs.Ranges.{by-kind}
-use Rattle.description.proofs.Standing.{listed-here, tree-here, needs-here, binds-here}
-use Rattle.description.proofs.Walking.{walk-keeps, walk-child}
+use Rattle.description.proofs.Ranges.{between, by-kind}
+use Rattle.description.proofs.Standing.{listed-here, child-below, smaller-placed, tree-here, needs-here, binds-here}
+use Rattle.description.proofs.Walking.{walk-child}
 
 -- a width that is listed
 width-few : (w : ℕ) → isWidth w ≡ true → w ≤ 32
@@ -40,7 +40,7 @@ module _ (d : List ℕ) (node : ℕ) where
   childTree j = treeOf d (fieldOf d node j)
 
   -- the trees of a node of kinds 00 to 0C
-  abbrev treesAs : List Tree
+  abbrev pub treesAs : List Tree
   treesAs =
       unit node
       ∷ bottom node
@@ -116,7 +116,7 @@ module _ (d starts : List ℕ) (node : ℕ) (p : Placed d starts node) where
   pub tree-is : (kind : ℕ) → kindOf d node ≡ kind → treeOf d node ≡ treeAs d node kind
   tree-is kind e = tree-here d starts node p ∙ as-row d node (kindOf d node) ∙ ap (treeAs d node) e
 
-  -- the binds that its child at place j has in it and needs around it, and those that its own operands need
+  -- the binds that its child at place j has in it and needs around it
   module _ (j : ℕ) (h : j < childCount (kindOf d node)) where
     pub child-binds : binds (childTree d node j) + binding (kindOf d node) j ≤ binds (treeOf d node)
     unfolding fieldOf
@@ -130,10 +130,25 @@ module _ (d starts : List ℕ) (node : ℕ) (p : Placed d starts node) where
         rw (needs-here d starts node p)
         (walk-child d (kindOf d node) _-_ (λ c. needs (treeOf d c)) (ownNeeds d (kindOf d node) (start d node + 1)) (start d node + 1) (childCount (kindOf d node)) j h)
 
-  pub own-needs : ownNeeds d (kindOf d node) (start d node + 1) ≤ needs (treeOf d node)
-  own-needs =
-      rw (needs-here d starts node p)
-      (walk-keeps d (kindOf d node) _-_ (λ c. needs (treeOf d c)) (ownNeeds d (kindOf d node) (start d node + 1)) 0 (start d node + 1) (childCount (kindOf d node)))
+  -- the binds that its operands need
+  pub where-needs : kindOf d node ≡ 8 → needsOf (operandOf d node 2) ≤ needs (treeOf d node)
+  unfolding needs
+  where-needs e = rw (tree-is 8 e) (omega arith)
+
+  pub sequence-needs : kindOf d node ≡ 9 → needsOf (operandOf d node 3) ≤ needs (treeOf d node)
+  unfolding needs
+  sequence-needs e = rw (tree-is 9 e) (omega arith)
+
+  pub compute-needs : kindOf d node ≡ 10 → (needsOf (operandOf d node 2) ≤ needs (treeOf d node)) × (needsOf (operandOf d node 7) ≤ needs (treeOf d node))
+  unfolding needs
+  compute-needs e = rw (tree-is 10 e) (omega arith)
+
+  -- a body has as many bytes as its kind has
+  pub body-bytes : (kind n : ℕ) → kindOf d node ≡ kind → n ≤ rowOf kind .bytes → n ≤ rowOf (kindOf d node) .bytes
+  body-bytes kind n e h = rw e h
+
+  pub child-placed : (j : ℕ) → j < childCount (kindOf d node) → Placed d starts (fieldOf d node j)
+  child-placed j h = smaller-placed d starts node p (fieldOf d node j) (child-below d starts node p j h)
 
   -- the widths of bits, signed and compute
   listed-as : (kind : ℕ) → kindOf d node ≡ kind → rowOf kind .listed d (start d node + 1) ≡ true
@@ -143,13 +158,12 @@ module _ (d starts : List ℕ) (node : ℕ) (p : Placed d starts node) where
   unfolding fieldOf
   few h = rw (add-zero (start d node + 1)) h
 
-  pub bits-width : kindOf d node ≡ 2 → fieldOf d node 0 ≤ 32
+  pub number-width : (kind : ℕ) → kindOf d node ≡ kind → 2 ≤ kind → kind < 4 → fieldOf d node 0 ≤ 32
   unfolding rowOf kinds
-  bits-width e = few (width-few (byte d (start d node + 1)) (listed-as 2 e))
-
-  pub signed-width : kindOf d node ≡ 3 → fieldOf d node 0 ≤ 32
-  unfolding rowOf kinds
-  signed-width e = few (signed-few (byte d (start d node + 1)) (listed-as 3 e))
+  number-width kind e low high =
+      between (λ k. kindOf d node ≡ k → fieldOf d node 0 ≤ 32) 2 2
+      ((λ e. few (width-few (byte d (start d node + 1)) (listed-as 2 e))), ((λ e. few (signed-few (byte d (start d node + 1)) (listed-as 3 e))), tt))
+      kind low high e
 
   pub compute-width : kindOf d node ≡ 10 → fieldOf d node 0 ≤ 32
   unfolding rowOf kinds

@@ -26,7 +26,7 @@ module _ (kind : ℕ) (step : ℕ → ℕ → ℕ) (value : ℕ → ℕ) where
 
 -- the walk over a node's children keeps what it has, and what each of them says
 module _ (d : List ℕ) (kind : ℕ) (step : ℕ → ℕ → ℕ) (value : ℕ → ℕ) where
-  pub walk-keeps : (most j p k : ℕ) → most ≤ walk kind step value most j (childrenAt d p k)
+  walk-keeps : (most j p k : ℕ) → most ≤ walk kind step value most j (childrenAt d p k)
   unfolding walk childrenAt
   walk-keeps most j p zero = omega arith
   walk-keeps most j p (suc k) = omega (arith, walk-keeps (max most (step (value (byte d p)) (binding kind j))) (j + 1) (p + 1) k)

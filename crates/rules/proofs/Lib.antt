@@ -8,5 +8,6 @@ pub mod Within
 pub mod Spans
 pub mod Heads
 pub mod Errors
+pub mod Bits
 pub mod Tables
 pub mod Outcomes

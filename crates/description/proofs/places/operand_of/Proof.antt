@@ -1,15 +1,12 @@
 -- The five bytes stand inside the body, so the four of a constant are inside the description.
 use borrow.Author.Needs.{needs}
 use borrow.Author.Tests.{eq-eqb, ne-eqb}
-use denote.Enum.Declared.{tagOf}
-use mathlib.Core.List.{List, [], _∷_}
-use mathlib.Core.Logic.{⊎-elim}
-use mathlib.Core.Path.{_≡_, sym, ap, subst, _∙_}
+use mathlib.Core.List.{List}
+use mathlib.Core.Path.{_≡_, sym, ap, _∙_}
 use mir.Syntax.{w64}
 use mir.Val.{toZ, ofZ}
 use Prim.Native.Nat.{ℕ, _+_, _*_, _≤_, _<_}
 use native.Mathlib.Omega.{arith}
-use types.Run.{OneOf}
 use lib.IntN.{ℤ}
 use lib.ListN.{length, getD}
 use Rattle.bits.specs.Bits.{total, number}
@@ -17,8 +14,7 @@ use Rattle.bits.specs.Lowest.{lowestSigned}
 use Rattle.bits.specs.Whole.{twosComplement}
 use Rattle.bits.specs.declared.Lowest.{Lowest}
 use Rattle.bits.specs.declared.Lowest.the-variants.{Number}
-use Rattle.bits.proofs.Answers.{lowest-number}
-use Rattle.bits.proofs.Lowest.{the-type}
+use Rattle.bits.proofs.Answers.{no-number, lowest-number}
 use Rattle.description.specs.Kinds.{byte, operand, rowOf}
 use Rattle.description.specs.Limits.{mostBytes}
 use Rattle.description.specs.Nodes.{constant, bound}
@@ -117,9 +113,7 @@ module _ (c : tie.After-signed) where
   number-is = answered _ _ _ _ (s (c .before) .pre .0) (s (c .before) .pre .1) _ (c .signed .ensures)
 
 returns-2 : tie.Need-returns-2
-returns-2 c =
-    let never = subst (λ (r : Lowest). OneOf (1 ∷ 2 ∷ []) (tagOf the-type r)) (number-is (c .before)) (c .match .keys2) in
-    ⊎-elim (λ e. absurd (omega arith)) (λ e. absurd (omega arith)) never
+returns-2 c = absurd (no-number _ _ (c .match .keys2) (number-is (c .before)))
 
 returns-3 : tie.Need-returns-3
 returns-3 c =

@@ -1,0 +1,113 @@
+// The nodes without children: unit, bottom, bits, signed and compute. Each gives its own entry.
+use crate::numbers;
+use crate::operands;
+use crate::readings::FAIL;
+use crate::readings::OK;
+use crate::readings::Own;
+use description::places;
+ghost use mathlib.Core.List.{[]};
+ghost use mathlib.Core.Path.{_≡_};
+ghost use Prim.Native.Nat.{_+_, _≤_};
+ghost use lib.IntN.{pos};
+ghost use lib.ListN.{length, drop};
+ghost use Rattle.bits.specs.Bits.{total, number};
+ghost use Rattle.bits.specs.Lowest.{lowest};
+ghost use Rattle.description.specs.Binds.{needs};
+ghost use Rattle.description.specs.Bodies.{childCount};
+ghost use Rattle.description.specs.Places.{kindOf, treeOf, Placed};
+ghost use Rattle.rules.specs.Outcome.{mostInput};
+ghost use Rattle.rules.specs.Reading.{readBits};
+ghost use Rattle.reader.specs.Inner.Leaves.{numberFor, computeAt};
+ghost use Rattle.reader.specs.Inner.Readings.{made};
+ghost use Rattle.reader.specs.Inner.Visits.{Visit, readAt};
+
+pub fn leaf(
+    desc: &[u8],
+    starts: &[usize],
+    input: &[u8],
+    lent: &[i64],
+    free: usize,
+    kind: u8,
+    node: usize,
+    o: u32,
+) -> Own
+    requires { ⌜ Visit (now desc) (now starts) (now input) (now lent) free node o × (kind ≡ kindOf (now desc) node) × (childCount kind ≡ 0) ⌝ }
+    ensures { λ r. ⌜ readAt (now (desc .entry)) (now (input .entry)) (now (lent .entry)) free node o ≡ made r [] ⌝ }
+{
+    match kind {
+        1 => failed(node, o),
+        2 | 3 => bits_or_none(
+            input,
+            kind,
+            node,
+            o,
+            places::field_of(desc, starts, node, 0),
+        ),
+        10 => clean(node, o, o, compute(desc, starts, lent, free, node)),
+        _ => clean(node, o, o, 0),
+    }
+}
+
+// "with o + w at most T, the w bits as unsigned or two's complement number, end o + w, ok. Otherwise end o, number 0, 1 error, fail."
+fn bits_or_none(input: &[u8], kind: u8, node: usize, o: u32, w: u8) -> Own
+    requires { ⌜ (length (now input) ≤ mostInput) × (o ≤ total (now input)) × (w ≤ 32) ⌝ }
+    ensures { λ r. ⌜ readBits (now (input .entry)) node o w (numberFor kind w (number (now (input .entry)) o w)) ≡ made r [] ⌝ }
+{
+    let bits::Lowest::Number(z) = lowest_for(input, kind, o, w) else {
+        return failed(node, o);
+    };
+    clean(node, o, o + w as u32, z)
+}
+
+// "as unsigned or two's complement number", by the kind.
+fn lowest_for(input: &[u8], kind: u8, o: u32, w: u8) -> bits::Lowest
+    ensures { λ r. ⌜ r ≡ lowest (now (input .entry)) o w (numberFor kind w (number (now (input .entry)) o w)) ⌝ }
+{
+    if kind == 2 {
+        bits::unsigned(input, o as usize, w)
+    } else {
+        bits::signed(input, o as usize, w)
+    }
+}
+
+// "The number is a + b or a - b, kept modulo 2 to the power w".
+fn compute(desc: &[u8], starts: &[usize], lent: &[i64], free: usize, node: usize) -> i64
+    requires { ⌜ Placed (now desc) (now starts) node × (kindOf (now desc) node ≡ 10) × (needs (treeOf (now desc) node) + free ≤ length (now lent)) ⌝ }
+    ensures { λ r. ⌜ r ≡ computeAt (now (desc .entry)) (drop free (now (lent .entry))) node ⌝ }
+{
+    let w = places::field_of(desc, starts, node, 0);
+    let operator = places::field_of(desc, starts, node, 1);
+    let a = operands::value_of(desc, starts, lent, free, node, 2);
+    let b = operands::value_of(desc, starts, lent, free, node, 7);
+    numbers::computed(w, operator, a, b)
+}
+
+// "end o, 0 errors, ok", or another end; with its number.
+fn clean(node: usize, o: u32, end: u32, number: i64) -> Own
+    ensures { λ r. ⌜ r ≡ record { node = node; begin = o; end = end; errors = 0; code = 0; number = number; detail = 0 } ⌝ }
+{
+    Own {
+        node,
+        begin: o,
+        end,
+        errors: 0,
+        code: OK,
+        number,
+        detail: 0,
+    }
+}
+
+// "end o, 1 error, fail", number 0.
+fn failed(node: usize, o: u32) -> Own
+    ensures { λ r. ⌜ r ≡ record { node = node; begin = o; end = o; errors = 1; code = 2; number = pos 0; detail = 0 } ⌝ }
+{
+    Own {
+        node,
+        begin: o,
+        end: o,
+        errors: 1,
+        code: FAIL,
+        number: 0,
+        detail: 0,
+    }
+}

@@ -3,3 +3,4 @@ pub mod Readings
 pub mod Windows
 pub mod Visits
 pub mod Leaves
+pub mod Owns

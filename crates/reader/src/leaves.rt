@@ -1,14 +1,12 @@
 // The nodes without children: unit, bottom, bits, signed and compute. Each gives its own entry.
 use crate::numbers;
 use crate::operands;
-use crate::readings::FAIL;
-use crate::readings::OK;
+use crate::owns;
 use crate::readings::Own;
 use description::places;
 ghost use mathlib.Core.List.{[]};
 ghost use mathlib.Core.Path.{_≡_};
 ghost use Prim.Native.Nat.{_+_, _≤_};
-ghost use lib.IntN.{pos};
 ghost use lib.ListN.{length, drop};
 ghost use Rattle.bits.specs.Bits.{total, number};
 ghost use Rattle.bits.specs.Lowest.{lowest};
@@ -35,7 +33,7 @@ pub fn leaf(
     ensures { λ r. ⌜ readAt (now (desc .entry)) (now (input .entry)) (now (lent .entry)) free node o ≡ made r [] ⌝ }
 {
     match kind {
-        1 => failed(node, o),
+        1 => owns::failed(node, o),
         2 | 3 => bits_or_none(
             input,
             kind,
@@ -43,8 +41,8 @@ pub fn leaf(
             o,
             places::field_of(desc, starts, node, 0),
         ),
-        10 => clean(node, o, o, compute(desc, starts, lent, free, node)),
-        _ => clean(node, o, o, 0),
+        10 => owns::clean(node, o, o, compute(desc, starts, lent, free, node)),
+        _ => owns::clean(node, o, o, 0),
     }
 }
 
@@ -54,9 +52,9 @@ fn bits_or_none(input: &[u8], kind: u8, node: usize, o: u32, w: u8) -> Own
     ensures { λ r. ⌜ readBits (now (input .entry)) node o w (numberFor kind w (number (now (input .entry)) o w)) ≡ made r [] ⌝ }
 {
     let bits::Lowest::Number(z) = lowest_for(input, kind, o, w) else {
-        return failed(node, o);
+        return owns::failed(node, o);
     };
-    clean(node, o, o + w as u32, z)
+    owns::clean(node, o, o + w as u32, z)
 }
 
 // "as unsigned or two's complement number", by the kind.
@@ -80,34 +78,4 @@ fn compute(desc: &[u8], starts: &[usize], lent: &[i64], free: usize, node: usize
     let a = operands::value_of(desc, starts, lent, free, node, 2);
     let b = operands::value_of(desc, starts, lent, free, node, 7);
     numbers::computed(w, operator, a, b)
-}
-
-// "end o, 0 errors, ok", or another end; with its number.
-fn clean(node: usize, o: u32, end: u32, number: i64) -> Own
-    ensures { λ r. ⌜ r ≡ record { node = node; begin = o; end = end; errors = 0; code = 0; number = number; detail = 0 } ⌝ }
-{
-    Own {
-        node,
-        begin: o,
-        end,
-        errors: 0,
-        code: OK,
-        number,
-        detail: 0,
-    }
-}
-
-// "end o, 1 error, fail", number 0.
-fn failed(node: usize, o: u32) -> Own
-    ensures { λ r. ⌜ r ≡ record { node = node; begin = o; end = o; errors = 1; code = 2; number = pos 0; detail = 0 } ⌝ }
-{
-    Own {
-        node,
-        begin: o,
-        end: o,
-        errors: 1,
-        code: FAIL,
-        number: 0,
-        detail: 0,
-    }
 }

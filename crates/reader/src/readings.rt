@@ -1,4 +1,5 @@
 // What reading a node gives, as the functions of the reader hand it to each other.
+ghost use mathlib.Core.Bool.{cond};
 ghost use mathlib.Core.Path.{_≡_};
 ghost use Prim.Native.Nat.{_+_, max};
 ghost use Rattle.rules.specs.Entries.{any};
@@ -55,6 +56,13 @@ pub fn code_for(errors: u32) -> u32
     ensures { λ r. ⌜ r ≡ codeFor errors ⌝ }
 {
     if errors == 0 { OK } else { ERR }
+}
+
+// "plus 1 if the relation ... is false"
+pub fn unless(holds: bool) -> u32
+    ensures { λ r. ⌜ r ≡ cond holds 0 1 ⌝ }
+{
+    if holds { 0 } else { 1 }
 }
 
 pub fn larger(a: u32, b: u32) -> u32

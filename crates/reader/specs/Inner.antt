@@ -4,3 +4,4 @@ pub mod Windows
 pub mod Visits
 pub mod Leaves
 pub mod Owns
+pub mod Pairs

@@ -5,3 +5,4 @@ pub mod Visits
 pub mod Leaves
 pub mod Owns
 pub mod Pairs
+pub mod Sequences

@@ -2,6 +2,7 @@
 use crate::numbers;
 use crate::operands;
 use crate::owns;
+use crate::readings::At;
 use crate::readings::Own;
 use description::places;
 ghost use mathlib.Core.List.{[]};
@@ -24,24 +25,21 @@ pub fn leaf(
     starts: &[usize],
     input: &[u8],
     lent: &[i64],
-    free: usize,
+    at: At,
     kind: u8,
-    node: usize,
     o: u32,
 ) -> Own
-    requires { ⌜ Visit (now desc) (now starts) (now input) (now lent) free node o × (kind ≡ kindOf (now desc) node) × (childCount kind ≡ 0) ⌝ }
-    ensures { λ r. ⌜ readAt (now (desc .entry)) (now (input .entry)) (now (lent .entry)) free node o ≡ made r [] ⌝ }
+    requires { ⌜ Visit (now desc) (now starts) (now input) (now lent) at o × (kind ≡ kindOf (now desc) (at .node)) × (childCount kind ≡ 0) ⌝ }
+    ensures { λ r. ⌜ readAt (now (desc .entry)) (now (input .entry)) (now (lent .entry)) at o ≡ made r [] ⌝ }
 {
+    let node = at.node;
     match kind {
         1 => owns::failed(node, o),
-        2 | 3 => bits_or_none(
-            input,
-            kind,
-            node,
-            o,
-            places::field_of(desc, starts, node, 0),
-        ),
-        10 => owns::clean(node, o, o, compute(desc, starts, lent, free, node)),
+        2 | 3 => {
+            let w = places::field_of(desc, starts, node, 0);
+            bits_or_none(input, kind, node, o, w)
+        }
+        10 => owns::clean(node, o, o, compute(desc, starts, lent, at)),
         _ => owns::clean(node, o, o, 0),
     }
 }
@@ -69,13 +67,14 @@ fn lowest_for(input: &[u8], kind: u8, o: u32, w: u8) -> bits::Lowest
 }
 
 // "The number is a + b or a - b, kept modulo 2 to the power w".
-fn compute(desc: &[u8], starts: &[usize], lent: &[i64], free: usize, node: usize) -> i64
-    requires { ⌜ Placed (now desc) (now starts) node × (kindOf (now desc) node ≡ 10) × (needs (treeOf (now desc) node) + free ≤ length (now lent)) ⌝ }
-    ensures { λ r. ⌜ r ≡ computeAt (now (desc .entry)) (drop free (now (lent .entry))) node ⌝ }
+fn compute(desc: &[u8], starts: &[usize], lent: &[i64], at: At) -> i64
+    requires { ⌜ Placed (now desc) (now starts) (at .node) × (kindOf (now desc) (at .node) ≡ 10)
+        × (needs (treeOf (now desc) (at .node)) + at .free ≤ length (now lent)) ⌝ }
+    ensures { λ r. ⌜ r ≡ computeAt (now (desc .entry)) (drop (at .free) (now (lent .entry))) (at .node) ⌝ }
 {
-    let w = places::field_of(desc, starts, node, 0);
-    let operator = places::field_of(desc, starts, node, 1);
-    let a = operands::value_of(desc, starts, lent, free, node, 2);
-    let b = operands::value_of(desc, starts, lent, free, node, 7);
+    let w = places::field_of(desc, starts, at.node, 0);
+    let operator = places::field_of(desc, starts, at.node, 1);
+    let a = operands::value_of(desc, starts, lent, at, 2);
+    let b = operands::value_of(desc, starts, lent, at, 7);
     numbers::computed(w, operator, a, b)
 }

@@ -16,6 +16,12 @@ pub const FAIL: u32 = 2;
 // No table has room for as many entries: a count stops here.
 const MOST_COUNTED: u32 = 65536;
 
+// A node that is read. Of the places for numbers lent the first `free` are free; the numbers stand after them, the nearest bind's first.
+pub struct At {
+    pub node: usize,
+    pub free: usize,
+}
+
 // What a node gives: end, errors, code and number, and how many entries it has.
 pub struct Reading {
     pub end: u32,

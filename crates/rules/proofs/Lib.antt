@@ -9,5 +9,6 @@ pub mod Spans
 pub mod Heads
 pub mod Errors
 pub mod Bits
+pub mod Clauses
 pub mod Tables
 pub mod Outcomes

@@ -42,7 +42,7 @@ module _ (c : tie.Then2) where
   low : 2 ≤ s .args .kind
   low = omega (arith, c .before .before .match .rest .0 .1, c .before .if1 .left)
 
-  kind-is : kindOf (s .args .desc .now) (s .args .node) ≡ s .args .kind
+  kind-is : kindOf (s .args .desc .now) (s .args .at .node) ≡ s .args .kind
   kind-is = sym (s .pre .1)
 
 field-of-requires : tie.Need-field-of-requires
@@ -61,7 +61,7 @@ clean-requires-2 c κs = search needs
 returns : tie.Need-returns
 returns c =
     let s = c .before .before .before .before .before in
-    bottom-reads _ _ _ _ _ _ _ (s .pre .0 .placed) (sym (s .pre .1) ∙ c .before .match .keys1)
+    bottom-reads _ _ _ _ _ _ (s .pre .0 .placed) (sym (s .pre .1) ∙ c .before .match .keys1)
     ∙ sym (ap (λ (r : Own). made r []) (c .failed .ensures))
 
 returns-2 : tie.Need-returns-2
@@ -69,8 +69,8 @@ returns-2 c =
     let n = c .before in
     let s = n .before .before .before .before .before in
     let a = s .args in
-    compute-reads _ _ _ _ _ _ _ (s .pre .0 .placed) (sym (s .pre .1) ∙ n .before .match .keys2)
-    ∙ ap (λ (z : ℤ). reading (a .node) (a .o) (a .o) 0 ok z 0 []) (sym (toZ-ofZ (sfits-of {w = w64} (n .compute .ok)) ∙ n .compute .ensures))
+    compute-reads _ _ _ _ _ _ (s .pre .0 .placed) (sym (s .pre .1) ∙ n .before .match .keys2)
+    ∙ ap (λ (z : ℤ). reading (a .at .node) (a .o) (a .o) 0 ok z 0 []) (sym (toZ-ofZ (sfits-of {w = w64} (n .compute .ok)) ∙ n .compute .ensures))
     ∙ sym (ap (λ (r : Own). made r []) (c .clean .ensures))
 
 returns-3 : tie.Need-returns-3
@@ -78,8 +78,8 @@ returns-3 c =
     let w = c .before in
     let t = w .before in
     let a = s t .args in
-    bits-reads _ _ _ _ _ _ _ (s t .pre .0 .placed) _ (kind-is t) (low t) (t .if2 .taken)
-    ∙ ap (λ (n : ℕ). readBits (a .input .now) (a .node) (a .o) n (numberFor (a .kind) n (number (a .input .now) (a .o) n))) (sym (w .field-of .ensures))
+    bits-reads _ _ _ _ _ _ (s t .pre .0 .placed) _ (kind-is t) (low t) (t .if2 .taken)
+    ∙ ap (λ (n : ℕ). readBits (a .input .now) (a .at .node) (a .o) n (numberFor (a .kind) n (number (a .input .now) (a .o) n))) (sym (w .field-of .ensures))
     ∙ c .bits-or-none .ensures
 
 returns-4 : tie.Need-returns-4
@@ -87,7 +87,7 @@ returns-4 c =
     let j = c .before in
     let n = j .before .match .rest in
     let s = j .before .before .before .before .before in
-    unit-reads _ _ _ _ _ _ _ (s .pre .0 .placed) _ (sym (s .pre .1)) (s .pre .2) (n .0 .1) (n .1)
+    unit-reads _ _ _ _ _ _ (s .pre .0 .placed) _ (sym (s .pre .1)) (s .pre .2) (n .0 .1) (n .1)
     (⊎-elim (λ w. inl (omega (arith, w .taken))) (λ w. inr (w .1 .left)) (j .if1 .came))
     ∙ sym (ap (λ (r : Own). made r []) (c .clean2 .ensures))
 

@@ -44,20 +44,20 @@ module _ (c : tie.After-known-told2) where
   abbrev s : tie.Start
   s = c .before .before .before .before .before .before
 
-  is : bound (c .before .k .given .0 .0) ≡ operandOf (s .args .desc .now) (s .args .node) (s .args .j)
+  is : bound (c .before .k .given .0 .0) ≡ operandOf (s .args .desc .now) (s .args .at .node) (s .args .j)
   is = sym (ap meant (c .before .k .given .1)) ∙ c .before .before .before .operand-of .ensures
 
-  inside : s .args .free + c .before .k .given .0 .0 < length (s .args .lent .now)
+  inside : s .args .at .free + c .before .k .given .0 .0 < length (s .args .lent .now)
   inside = there (s .args .lent .now) _ _ _ is (s .pre .1)
 
-add-result : tie.Need-add-result
-add-result c = omega (arith, inside c)
+add-i : tie.Need-add-i
+add-i c = omega (arith, inside (c .before))
 
 mul-result : tie.Need-mul-result
-mul-result c = omega (arith, inside c)
+mul-result c = omega (arith, inside (c .before))
 
 shared-slice-copy-out-result : tie.Need-shared-slice-copy-out-result
-shared-slice-copy-out-result c = inside c
+shared-slice-copy-out-result c = inside (c .before)
 
 returns : tie.Need-returns
 returns c =
@@ -67,10 +67,11 @@ returns c =
 
 returns-2 : tie.Need-returns-2
 returns-2 c =
-    let a = s (c .before) .args in
-    let z = getD (a .lent .now) (a .free + c .before .before .k .given .0 .0) (pos 0) in
+    let k = c .before .before in
+    let a = s k .args in
+    let z = getD (a .lent .now) (a .at .free + k .before .k .given .0 .0) (pos 0) in
     let told : toZ w64 (ofZ w64 z) ≡ z = search needs in
-    told ∙ is-lent (a .lent .now) (a .free) _ _ (is (c .before))
+    told ∙ is-lent (a .lent .now) (a .at .free) _ _ (is k)
 
 pub value-of-spec : {M : Type 1} → statement M
 value-of-spec =
@@ -79,7 +80,7 @@ value-of-spec =
     operand-of-requires
     enum-known-z
     enum-known-k
-    add-result
+    add-i
     mul-result
     shared-slice-copy-out-result
     returns

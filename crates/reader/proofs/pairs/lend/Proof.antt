@@ -10,7 +10,7 @@ use native.Mathlib.Nat.{sub-zero}
 use native.Mathlib.Omega.{arith}
 use lib.Dec.{eqb}
 use lib.IntN.{ℤ, pos}
-use lib.ListN.{length, drop, getD, set}
+use lib.ListN.{length, drop, set}
 use lib.Seq.{lt-length-set, drop-cons, drop-set-lt, getD-set-same}
 use Rattle.description.specs.Inner.Children.{binding}
 use Rattle.rules.specs.Entries.{fail}

@@ -61,12 +61,17 @@ module _ (d : List ℕ) where
       go (accepted t) e = unfold verdict in refl
       go (refused r) e = let z : _≡_ {A = ℕ} 0 1 = cc in absurd (omega arith)
 
-  pub checked-refused : (r : Refusal) → examined d ≡ Refused r → checked d ≡ verdicts.the-variants.Refused r
-  checked-refused r = unfold examined in unfold checked in go (meaning d)
+  -- a refused description means that refusal
+  pub means-refused : (r : Refusal) → examined d ≡ Refused r → meaning d ≡ refused r
+  means-refused r = unfold examined in go (meaning d)
     where
-      go : (m : Meaning) → elim m [ refused q ↦ Refused q | accepted t ↦ Nodes (standing (nodesFrom d mostNodes [] 0)) ] ≡ Refused r → verdict m ≡ verdicts.the-variants.Refused r
+      go : (m : Meaning) → elim m [ refused q ↦ Refused q | accepted t ↦ Nodes (standing (nodesFrom d mostNodes [] 0)) ] ≡ Refused r → m ≡ refused r
       go (accepted t) e = let z : _≡_ {A = ℕ} 0 1 = cc in absurd (omega arith)
-      go (refused q) e = unfold verdict in (let same : q ≡ r = cc in ap verdicts.the-variants.Refused same)
+      go (refused q) e = let same : q ≡ r = cc in ap refused same
+
+  pub checked-refused : (r : Refusal) → examined d ≡ Refused r → checked d ≡ verdicts.the-variants.Refused r
+  unfolding checked verdict
+  checked-refused r e = ap verdict (means-refused r e)
 
 module _ (d : List ℕ) where
   pub meaning-empty : length d ≡ 0 → meaning d ≡ refused EmptyOrTooLong

@@ -14,4 +14,4 @@ mod Walking
 pub mod Visiting
 mod Standing
 mod Judging
-mod Examining
+pub mod Examining

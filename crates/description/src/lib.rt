@@ -23,7 +23,7 @@ const MOST_BYTES: usize = 1024;
 pub const MOST_NODES: usize = 64;
 
 // "more than 31 binds around one node"
-const MOST_BINDS: usize = 31;
+pub const MOST_BINDS: usize = 31;
 
 // Why a description is refused: the first of document 01's reasons, in its order. A case holds the node that it gives, where 01 does not fix
 // that number.

@@ -12,3 +12,4 @@ mod OneRound
 mod Going
 mod Ends
 mod Trying
+mod Calls

@@ -8,12 +8,16 @@ ghost use Prim.Native.Nat.{_*_, _≤_, _<_, min};
 ghost use lib.ListN.{length, replicate};
 ghost use lib.Seq.{sets};
 ghost use Rattle.description.specs.Limits.{mostNodes};
+ghost use Rattle.rules.specs.Tables.{room};
 ghost use Rattle.reader.specs.Inner.Windows.{Entered, forgotten};
 
 // Words to an entry.
 pub const VALUE_WORDS: usize = 4;
 
 pub const DESCRIPTOR_WORDS: usize = 4;
+
+// "never above 65,535"
+const MOST_ENTRIES: usize = 65535;
 
 // Every word 0.
 pub fn clear(words: &mut [u32])
@@ -23,6 +27,23 @@ pub fn clear(words: &mut [u32])
     while i < words.len() {
         words[i] = 0;
         i += 1;
+    }
+}
+
+// "Room is the smaller of the two lengths divided by 4 and rounded down, and never above 65,535."
+pub fn room_of(values: usize, descriptors: usize) -> usize
+    ensures { λ r. ⌜ r ≡ room values descriptors ⌝ }
+{
+    let words = if values < descriptors {
+        values
+    } else {
+        descriptors
+    };
+    let room = words / VALUE_WORDS;
+    if room < MOST_ENTRIES {
+        room
+    } else {
+        MOST_ENTRIES
     }
 }
 

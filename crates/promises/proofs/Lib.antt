@@ -1,2 +1,3 @@
--- Theorems on the rules.
+-- Theorems on the rules, and on what the reader's contract allows.
 pub mod Bounds
+pub mod Determined

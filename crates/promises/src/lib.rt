@@ -1,1 +1,1 @@
-// Theorems on the rules: proofs/. There is no code here.
+// Theorems on the rules, and on what the reader's contract allows: proofs/. There is no code here.

@@ -1,6 +1,6 @@
 // Whole numbers and their words: the low 32 bits, relations, and what a compute gives.
 ghost use mathlib.Core.Path.{_≡_};
-ghost use Prim.Native.Nat.{_%_, _^_, _≤_};
+ghost use Prim.Native.Nat.{_+_, _%_, _^_, _≤_};
 ghost use lib.IntN.{pos};
 ghost use Rattle.bits.specs.Whole.{modulo, word};
 ghost use Rattle.description.specs.Kinds.{relation, operator};
@@ -40,12 +40,17 @@ pub fn computed(w: u8, number: u8, a: i64, b: i64) -> i64
     requires { ⌜ w ≤ 32 ⌝ }
     ensures { λ r. ⌜ r ≡ pos (modulo w (result (operator number) a b)) ⌝ }
 {
-    let x = word_of(a);
-    let y = word_of(b);
+    remainder(on_words(number, word_of(a), word_of(b)), w)
+}
+
+// "a + b or a - b" on the numbers' words, past either end of 32 bits.
+fn on_words(number: u8, x: u32, y: u32) -> u32
+    ensures { λ r. ⌜ (number ≡ 1 → (r + y) % 2 ^ 32 ≡ x) × ((number ≡ 1 → ⊥) → r ≡ (x + y) % 2 ^ 32) ⌝ }
+{
     if number == 1 {
-        remainder(std::num::wrapping_sub_u32(x, y), w)
+        std::num::wrapping_sub_u32(x, y)
     } else {
-        remainder(std::num::wrapping_add_u32(x, y), w)
+        std::num::wrapping_add_u32(x, y)
     }
 }
 

@@ -3,8 +3,8 @@ use Prim.Native.Nat.{ℕ}
 use mathlib.Core.List.{List}
 use mathlib.Core.Path.{_≡_, refl, sym, ap, _∙_}
 use Rattle.rules.specs.Outcome as rules
-use Rattle.rules.specs.Outcome.{Outcome, success, badDescription, inputTooLong, noRoom, outcome}
-use Rattle.reader.specs.Answers.{said, given}
+use Rattle.rules.specs.Outcome.{Outcome, success, badDescription, inputTooLong, noRoom, stated, outcome}
+use Rattle.reader.specs.Answers.{said, statedBy, given}
 use Rattle.reader.specs.declared.Answer.{Answer}
 use Rattle.reader.specs.declared.Answer.the-variants.{Success, BadDescription, InputTooLong, NoRoom}
 
@@ -49,3 +49,9 @@ module _ (a b : Answer) (values descriptors values′ descriptors′ : List ℕ)
   pub determined : (v d : ℕ) (desc input : List ℕ) → given a values descriptors ≡ outcome v d desc input → given b values′ descriptors′ ≡ outcome v d desc input
       → (a ≡ b) × (values ≡ values′) × (descriptors ≡ descriptors′)
   determined v d desc input e f = same-given (e ∙ sym f)
+
+-- 01's number, node, count and end of the answer are those of the outcome.
+pub as-stated : (a : Answer) (values descriptors : List ℕ) (v d : ℕ) (desc input : List ℕ) → given a values descriptors ≡ outcome v d desc input
+    → statedBy a ≡ stated (outcome v d desc input .answer)
+unfolding given statedBy
+as-stated a values descriptors v d desc input e = ap (λ (o : Outcome). stated (o .answer)) e

@@ -20,6 +20,7 @@ ghost use Rattle.reader.specs.Inner.Leaves.{numberFor, computeAt};
 ghost use Rattle.reader.specs.Inner.Readings.{made};
 ghost use Rattle.reader.specs.Inner.Visits.{Visit, readAt};
 
+// A node without children, read at o.
 pub fn leaf(
     desc: &[u8],
     starts: &[usize],

@@ -1,6 +1,6 @@
 // The lowest number read: w bits at a bit offset, as an unsigned or a two's complement number.
 ghost use mathlib.Core.Path.{_≡_};
-ghost use Prim.Native.Nat.{_+_, _*_, _/_, _^_, _≤_, _<_};
+ghost use Prim.Native.Nat.{_+_, _^_, _≤_, _<_};
 ghost use lib.Dec.{leb};
 ghost use Rattle.bits.specs.Bits.{total, bit, number};
 ghost use Rattle.bits.specs.Whole.{twosComplement};

@@ -1,9 +1,7 @@
 // Where the second of two children begins, and what is lent to it, by the kind.
 use crate::readings::FAIL;
-ghost use mathlib.Core.Bool.{cond};
 ghost use mathlib.Core.Path.{_≡_};
-ghost use Prim.Native.Nat.{_-_, _≤_, _<_};
-ghost use lib.Dec.{eqb};
+ghost use Prim.Native.Nat.{_≤_, _<_};
 ghost use lib.ListN.{length};
 ghost use Rattle.reader.specs.Inner.Pairs.{secondAt, Lent};
 

@@ -17,7 +17,7 @@ ghost use Rattle.description.specs.Limits.{mostBytes};
 ghost use Rattle.description.specs.Places.{nodesTo};
 
 // "description empty or over 1,024 bytes"
-const MOST_BYTES: usize = 1024;
+pub const MOST_BYTES: usize = 1024;
 
 // "A description holds 1 to 64 nodes."
 pub const MOST_NODES: usize = 64;

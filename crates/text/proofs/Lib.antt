@@ -1,0 +1,4 @@
+pub mod Putting
+pub mod Decimals
+pub mod Longer
+pub mod Printed

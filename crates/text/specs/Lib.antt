@@ -1,0 +1,5 @@
+-- What is printed.
+pub mod Lines
+pub mod Listing
+-- What the functions that put it into a buffer promise.
+pub mod Put

@@ -79,9 +79,13 @@ from-drops n bytes = take-all (length bytes - n) (drop n bytes) (omega (arith, l
 
 -- what follows a stated length
 module _ (n : ℕ) (bytes : List ℕ) where
-  refused-one : (eqb n 0 || ltb mostBytes n) ≡ true → listed n bytes ≡ refusedLine 1 0
+  pub refused-one : (eqb n 0 || ltb mostBytes n) ≡ true → listed n bytes ≡ refusedLine 1 0
   unfolding listed
   refused-one t = rw (t, listed)
+
+  pub as-read : (eqb n 0 || ltb mostBytes n) ≡ false → n ≤ length bytes → listed n bytes ≡ printedOutcome (outcome tableWords tableWords (take n bytes) (drop n bytes))
+  unfolding listed
+  as-read f h = rw (f, le-ltb (length bytes) n h, listed)
 
   pub listed-empty : n ≡ 0 → listed n bytes ≡ refusedLine 1 0
   listed-empty e = refused-one (or-left (eqb n 0) (ltb mostBytes n) (eq-eqb n 0 e))
@@ -100,8 +104,7 @@ module _ (n : ℕ) (bytes : List ℕ) where
     listed-short h = rw (accepted-length, lt-ltb (length bytes) n h, listed)
 
     pub listed-read : n ≤ length bytes → listed n bytes ≡ printedOutcome (outcome tableWords tableWords (take n bytes) (from n bytes))
-    unfolding listed
-    listed-read h = rw (accepted-length, le-ltb (length bytes) n h, from-drops n bytes, listed)
+    listed-read h = rw (from-drops n bytes) (as-read accepted-length h)
 
 -- standard input
 pub listing-short : (bytes : List ℕ) → length bytes < 2 → listing bytes ≡ shortInput

@@ -21,6 +21,10 @@ const TABLE_WORDS: usize = 4096;
 // No listing is longer: a first line of 30 bytes, and 1,024 entries of eight numbers, each with ten digits and what follows it.
 pub const MOST_TEXT: usize = 90142;
 
+// No more of standard input is needed: two bytes of length, 1,024 of description, and 8,192 of input, which are refused
+// (`proofs/Enough.antt`).
+pub const MOST_GIVEN: usize = 9218;
+
 // What is printed for what standard input holds. All of it has room.
 pub fn list(given: &[u8], text: &mut [u8; MOST_TEXT]) -> usize
     ensures { λ r. ⌜ now (text .exit) ≡ sets (now (text .entry)) 0 (listing (now (given .entry))) ⌝ }

@@ -20,7 +20,7 @@ use Rattle.reader.specs.declared.Answer.{Answer}
 use Rattle.reader.specs.declared.Answer.the-variants.{Success, BadDescription, InputTooLong, NoRoom}
 use Rattle.text.specs.Listing.{okLine, refusedLine, shortInput, entryLines, refusalLine, printed, printedOutcome, tableWords, listed, listing}
 use Rattle.text.specs.Put.{Put}
-use Rattle.text.proofs.Putting.{put-both}
+use Rattle.text.proofs.Putting.{put-both, put-counts}
 
 -- A text that is put, and no longer than so much.
 abbrev pub Fits : (before new after : List ℕ) (next most : ℕ) → Type 0
@@ -32,6 +32,11 @@ fits-as before new said after next most more e h p = rw e (p .0, omega (arith, p
 
 pub short-fits : (before after : List ℕ) (next : ℕ) → Put before 0 shortInput after next → Fits before shortInput after next 30
 short-fits before after next p = (p, omega arith)
+
+-- a text that is put ends inside the buffer
+pub with-count : (before new after : List ℕ) (next most : ℕ) → Fits before new after next most
+    → Put before 0 new after next × ((length new ≤ most) × ((next ≤ length after) × (next ≡ length (take next after))))
+with-count before new after next most p = (p .0, (p .1, put-counts before new after next (p .0)))
 
 -- a call
 module _ (vs ds before after : List ℕ) (end : ℕ) where

@@ -66,12 +66,12 @@ pub put-all : (before : List ℕ) (at : ℕ) (letters : List ℕ) (i : ℕ) (aft
     → Put before at letters after next
 put-all before at letters i after next h p = subst (λ (w : List ℕ). Put before at w after next) (take-all i letters h) p
 
--- a text that has room
-module _ (before new after : List ℕ) (next : ℕ) (p : Put before 0 new after next) (room : length new ≤ length before) where
-  pub put-ends : next ≡ length new
-  put-ends = omega (arith, p .next-is, room)
-
+-- where a text ends: inside the buffer, and where it has room, after all of it
+module _ (before new after : List ℕ) (next : ℕ) (p : Put before 0 new after next) where
   pub put-counts : (next ≤ length after) × (next ≡ length (take next after))
   put-counts =
-      let inside : next ≤ length after = omega (arith, put-ends, put-length before 0 new after next p, room) in
+      let inside : next ≤ length after = omega (arith, p .next-is, put-length before 0 new after next p) in
       (inside, sym (length-take-le next after inside))
+
+  pub put-ends : length new ≤ length before → next ≡ length new
+  put-ends room = omega (arith, p .next-is, room)

@@ -74,6 +74,7 @@ fn read(desc: &[u8], input: &[u8], text: &mut [u8]) -> usize
 pub fn call(answer: Answer, values: &[u32], descriptors: &[u32], text: &mut [u8]) -> usize
     ensures { λ r. ⌜ Put (now (text .entry)) 0 (printed (now (values .entry)) (now (descriptors .entry)) (said answer)) (now (text .exit)) r ⌝ }
     ensures { λ _. ⌜ length (printed (now (values .entry)) (now (descriptors .entry)) (said answer)) ≤ 30 + 88 * statedBy answer .count ⌝ }
+    ensures { λ r. ⌜ (r ≤ length (now (text .exit))) × (r ≡ length (take r (now (text .exit)))) ⌝ }
 {
     match answer {
         Answer::Success { count, end } => {

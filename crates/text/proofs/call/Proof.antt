@@ -1,6 +1,6 @@
 --
 use borrow.Author.Needs.{needs}
-use Rattle.text.proofs.Printed.{says-read, says-refused, says-too-long, says-no-room}
+use Rattle.text.proofs.Printed.{with-count, says-read, says-refused, says-too-long, says-no-room}
 use Rattle.text.proofs.call.Statement.{statement}
 use Rattle.text.proofs.call.Tie as tie
 
@@ -51,7 +51,7 @@ returns c =
     let e = c .before .before in
     let o = e .before .before .before .before in
     let a = o .before .before .before in
-    says-read _ _ _ _ _ _ _ _ _ _ (a .answer .given .1) (o .ok .ensures) (e .entries .ensures .0) (e .entries .ensures .1)
+    with-count _ _ _ _ _ (says-read _ _ _ _ _ _ _ _ _ _ (a .answer .given .1) (o .ok .ensures) (e .entries .ensures .0) (e .entries .ensures .1))
 
 same-length-2 : tie.Need-same-length-2
 same-length-2 c = search needs
@@ -61,7 +61,7 @@ returns-2 c =
     let f = c .before .before in
     let n = f .before .before in
     let a = n .before .before .before in
-    says-refused _ _ _ _ _ _ _ _ _ (a .answer2 .given .1) (n .number .ensures) (f .before .node .ensures) (f .refused .ensures)
+    with-count _ _ _ _ _ (says-refused _ _ _ _ _ _ _ _ _ (a .answer2 .given .1) (n .number .ensures) (f .before .node .ensures) (f .refused .ensures))
 
 same-length-3 : tie.Need-same-length-3
 same-length-3 c = search needs
@@ -69,7 +69,7 @@ same-length-3 c = search needs
 returns-3 : tie.Need-returns-3
 returns-3 c =
     let f = c .before .before in
-    says-too-long _ _ _ _ _ _ (f .before .before .enum-told .given .1) (f .refused2 .ensures)
+    with-count _ _ _ _ _ (says-too-long _ _ _ _ _ _ (f .before .before .enum-told .given .1) (f .refused2 .ensures))
 
 same-length-4 : tie.Need-same-length-4
 same-length-4 c = search needs
@@ -77,7 +77,7 @@ same-length-4 c = search needs
 returns-4 : tie.Need-returns-4
 returns-4 c =
     let f = c .before .before in
-    says-no-room _ _ _ _ _ _ (f .before .before .enum-told2 .given .1) (f .refused3 .ensures)
+    with-count _ _ _ _ _ (says-no-room _ _ _ _ _ _ (f .before .before .enum-told2 .given .1) (f .refused3 .ensures))
 
 pub call-spec : {M : Type 1} → statement M
 call-spec =

@@ -17,7 +17,7 @@ returns c =
     let t = c .before .before .before .args .text .now in
     let g = c .before .before .before .args .given .now in
     let fits : length (listing g) ≤ length t = omega (arith, c .before .list-into-arg .given .0 .1, l .ensures .1) in
-    (l .ensures .0 .text-is, (put-ends _ _ _ _ (l .ensures .0) fits, put-counts _ _ _ _ (l .ensures .0) fits))
+    (l .ensures .0 .text-is, (put-ends _ _ _ _ (l .ensures .0) fits, put-counts _ _ _ _ (l .ensures .0)))
 
 pub list-spec : {M : Type 1} → statement M
 list-spec = tie.close (tie.spec list-into-requires returns)

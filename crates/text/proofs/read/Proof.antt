@@ -31,7 +31,7 @@ returns : tie.Need-returns
 returns c =
     let k = c .before .before in
     let r = k .before .before .before .before .before .before in
-    of-outcome _ _ _ _ _ _ _ _ _ _ (length-replicate {A = ℕ} 4096 0) (length-replicate {A = ℕ} 4096 0) (r .read .ensures) (k .call .ensures)
+    of-outcome _ _ _ _ _ _ _ _ _ _ (length-replicate {A = ℕ} 4096 0) (length-replicate {A = ℕ} 4096 0) (r .read .ensures) (k .call .ensures .0, k .call .ensures .1 .0)
 
 pub read-spec : {M : Type 1} → statement M
 read-spec =

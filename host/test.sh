@@ -1,5 +1,6 @@
 #!/usr/bin/env bash
-# Builds the static library and the C host, runs both over descriptions whose verdicts document 01 gives, and compares.
+# Builds the static library and the C host, runs both over descriptions whose verdicts document 01 gives, and compares. Then measures how much
+# stack the reader takes.
 set -euo pipefail
 cd "$(dirname "${BASH_SOURCE[0]}")/.."
 
@@ -58,6 +59,12 @@ run_program() {
     echo "host: the program's words are as expected for $(ls "$out/cases" | wc -l) files"
 }
 
+# The deepest descriptions, each on a stack of the size that the header tells a host to give.
+measure_stack() {
+    gcc -std=c99 "${strict[@]}" host/stack.c "$library" -lpthread -o "$out/stack" || fail "host/stack.c is no C99"
+    "$out/stack" || fail "the reader needs more stack than host/stack.c gives it"
+}
+
 for tool in gcc g++; do
     command -v "$tool" >/dev/null || fail "$tool is not on the PATH"
 done
@@ -65,3 +72,4 @@ build_library
 compile_header
 run_tests
 run_program
+measure_stack

@@ -20,19 +20,19 @@ shared-slice-read-n : tie.Need-shared-slice-read-n
 shared-slice-read-n c = search needs
 
 cast-n : tie.Need-cast-n
-cast-n c = omega (arith, c .shared-slice-known2 .given 0)
+cast-n c = let byte = c .shared-slice-known2 .given in omega (arith, byte 0, byte 1)
 
 mul-n : tie.Need-mul-n
-mul-n c = omega (arith, c .shared-slice-known2 .given 0)
+mul-n c = let byte = c .shared-slice-known2 .given in omega (arith, byte 0, byte 1)
 
 shared-slice-read-n-2 : tie.Need-shared-slice-read-n-2
 shared-slice-read-n-2 c = search needs
 
 cast-n-2 : tie.Need-cast-n-2
-cast-n-2 c = omega (arith, c .shared-slice-known3 .given 1)
+cast-n-2 c = let byte = c .shared-slice-known3 .given in omega (arith, byte 0, byte 1)
 
 add-n : tie.Need-add-n
-add-n c = omega (arith, c .before .shared-slice-known2 .given 0, c .shared-slice-known3 .given 1)
+add-n c = let byte = c .shared-slice-known3 .given in omega (arith, byte 0, byte 1)
 
 sub-listed : tie.Need-sub-listed
 sub-listed c = search needs

@@ -91,6 +91,8 @@ test_faults() {
     grep -q '^listing: standard output: ' "$work/said" || fail "it does not say that standard output failed"
     timeout 10 "$listing" <"$case_a" >&- 2>"$work/said" || fail "it does not end where the output is closed"
     grep -q '^listing: standard output: ' "$work/said" || fail "it does not say that standard output is closed"
+    { sleep 0.2; status=0; timeout 10 "$listing" <"$case_a" 2>"$work/said" || status=$?; echo "$status" >"$work/status"; } | true
+    [ "$(cat "$work/status")" != 0 ] || grep -q '^listing: standard output: ' "$work/said" || fail "a pipe that nobody reads is no failure"
     if bash listing/read.sh examples/pulse_counter/{description,input}.hex >/dev/full 2>/dev/null; then fail "a failed write has status 0"; fi
     if bash listing/read.sh examples/pulse_counter/{description,input}.hex >&- 2>/dev/null; then fail "a closed output has status 0"; fi
 }

@@ -78,8 +78,8 @@ fn one_bit(input: &[u8], o: usize, i: u8) -> u64
     ensures { λ r. ⌜ r ≡ bit (now (input .entry)) (o + i) ⌝ }
 {
     let k = o % 8 + i as usize;
-    let byte = input[o / 8 + k / 8];
-    (byte >> (7 - k % 8)) as u64 % 2
+    let byte = input[o / 8 + k / 8] as u64;
+    (byte >> (7 - k % 8)) % 2
 }
 
 // The two's complement number of width w that has the bits of n.

@@ -1,13 +1,14 @@
 -- A line is its numbers, put one after the other, and no longer than they can be.
 use Prim.Native.Nat.{ℕ, suc, _+_, _-_, _*_, _≤_, _<_}
 use mathlib.Core.List.{List, [], _∷_, _++_, append-assoc}
-use mathlib.Core.Path.{_≡_, refl, sym, ap, subst, _∙_}
+use mathlib.Core.Path.{_≡_, ap, subst, _∙_}
 use native.Mathlib.Numerals.{add-one}
 use native.Mathlib.Omega.{arith}
 use lib.ListN.{length, length-append}
+use Rattle.text.specs.Inner.Lengths.{spacedWords}
 use Rattle.text.specs.Lines.{decimal, following}
 use Rattle.text.specs.Listing.{entryWord, entryLine, entryLines}
-use Rattle.text.specs.Put.{Put, spacedWords}
+use Rattle.text.specs.Put.{Put}
 use Rattle.text.proofs.Putting.{put-both, put-nothing}
 
 pub two-numbers-length : (a b : ℕ) → length (decimal a) ≤ 10 → length (decimal b) ≤ 10 → length (following (a ∷ b ∷ [])) ≤ 23

@@ -1,7 +1,7 @@
 -- What is printed, answer by answer, and for each way that standard input can be.
 use Prim.Native.Nat.{ℕ, _+_, _-_, _*_, _≤_, _<_}
 use mathlib.Core.Bool.{true, false, _||_}
-use mathlib.Core.List.{List, [], _∷_, _++_}
+use mathlib.Core.List.{List, [], _∷_}
 use mathlib.Core.Path.{_≡_, refl, sym, ap, ap₂, subst, _∙_}
 use native.Mathlib.Omega.{arith}
 use borrow.Author.Tests.{lt-ltb, le-ltb, eq-eqb, ne-eqb}
@@ -18,6 +18,7 @@ use Rattle.rules.proofs.Outcomes.{outcome-count}
 use Rattle.reader.specs.Answers.{said, statedBy, given}
 use Rattle.reader.specs.declared.Answer.{Answer}
 use Rattle.reader.specs.declared.Answer.the-variants.{Success, BadDescription, InputTooLong, NoRoom}
+use Rattle.text.specs.Inner.Lengths.{mostText}
 use Rattle.text.specs.Listing.{okLine, refusedLine, shortInput, entryLines, refusalLine, printed, printedOutcome, tableWords, listed, listing}
 use Rattle.text.specs.Put.{Put}
 use Rattle.text.proofs.Putting.{put-both, put-counts}
@@ -65,12 +66,12 @@ module _ (vs ds before after : List ℕ) (end : ℕ) where
 
 -- a call with the listing's tables
 pub of-outcome : (a : Answer) (vs ds desc input before after : List ℕ) (v d next : ℕ) → v ≡ 4096 → d ≡ 4096 → given a vs ds ≡ outcome v d desc input
-    → Fits before (printed vs ds (said a)) after next (30 + 88 * statedBy a .count) → Fits before (printedOutcome (outcome tableWords tableWords desc input)) after next 90142
-unfolding printedOutcome given statedBy tableWords room
+    → Fits before (printed vs ds (said a)) after next (30 + 88 * statedBy a .count) → Fits before (printedOutcome (outcome tableWords tableWords desc input)) after next mostText
+unfolding printedOutcome given statedBy tableWords mostText room
 of-outcome a vs ds desc input before after v d next ev ed e p =
     let same : given a vs ds ≡ outcome 4096 4096 desc input = e ∙ ap₂ (λ (n m : ℕ). outcome n m desc input) ev ed in
     subst
-    (λ (o : Outcome). stated (o .answer) .count ≤ 1024 → Fits before (printedOutcome o) after next 90142)
+    (λ (o : Outcome). stated (o .answer) .count ≤ 1024 → Fits before (printedOutcome o) after next mostText)
     same
     (λ count. (p .0, omega (arith, p .1, count)))
     (outcome-count 4096 4096 desc input)

@@ -11,6 +11,7 @@ ghost use lib.ListN.{length, take};
 ghost use lib.Seq.{sets};
 ghost use Rattle.reader.specs.Answers.{said, statedBy};
 ghost use Rattle.rules.specs.Outcome.{outcome};
+ghost use Rattle.text.specs.Inner.Lengths.{mostText};
 ghost use Rattle.text.specs.Listing.{printed, printedOutcome, tableWords, listing};
 ghost use Rattle.text.specs.Listing.{listed as Listing·listed};
 ghost use Rattle.text.specs.Put.{Put};
@@ -36,7 +37,7 @@ pub fn list(given: &[u8], text: &mut [u8; MOST_TEXT]) -> usize
 
 fn list_into(given: &[u8], text: &mut [u8]) -> usize
     ensures { λ r. ⌜ Put (now (text .entry)) 0 (listing (now (given .entry))) (now (text .exit)) r ⌝ }
-    ensures { λ _. ⌜ length (listing (now (given .entry))) ≤ 90142 ⌝ }
+    ensures { λ _. ⌜ length (listing (now (given .entry))) ≤ mostText ⌝ }
 {
     if given.len() < 2 {
         return lines::short_input(text);
@@ -48,7 +49,7 @@ fn list_into(given: &[u8], text: &mut [u8]) -> usize
 // What follows a stated length n.
 fn listed(n: usize, bytes: &[u8], text: &mut [u8]) -> usize
     ensures { λ r. ⌜ Put (now (text .entry)) 0 (Listing·listed n (now (bytes .entry))) (now (text .exit)) r ⌝ }
-    ensures { λ _. ⌜ length (Listing·listed n (now (bytes .entry))) ≤ 90142 ⌝ }
+    ensures { λ _. ⌜ length (Listing·listed n (now (bytes .entry))) ≤ mostText ⌝ }
 {
     if n == 0 || MOST_BYTES < n {
         return lines::refused(text, 1, 0);
@@ -62,7 +63,7 @@ fn listed(n: usize, bytes: &[u8], text: &mut [u8]) -> usize
 // A description and an input, read into tables of the listing's own.
 fn read(desc: &[u8], input: &[u8], text: &mut [u8]) -> usize
     ensures { λ r. ⌜ Put (now (text .entry)) 0 (printedOutcome (outcome tableWords tableWords (now (desc .entry)) (now (input .entry)))) (now (text .exit)) r ⌝ }
-    ensures { λ _. ⌜ length (printedOutcome (outcome tableWords tableWords (now (desc .entry)) (now (input .entry)))) ≤ 90142 ⌝ }
+    ensures { λ _. ⌜ length (printedOutcome (outcome tableWords tableWords (now (desc .entry)) (now (input .entry)))) ≤ mostText ⌝ }
 {
     let mut values = [0u32; TABLE_WORDS];
     let mut descriptors = [0u32; TABLE_WORDS];

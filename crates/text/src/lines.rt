@@ -4,9 +4,10 @@ ghost use Prim.Native.Nat.{_-_, _*_, _≤_};
 ghost use mathlib.Core.List.{[], _∷_, _++_};
 ghost use mathlib.Core.Path.{_≡_};
 ghost use lib.ListN.{length};
+ghost use Rattle.text.specs.Inner.Lengths.{spacedWords};
 ghost use Rattle.text.specs.Lines.{following};
 ghost use Rattle.text.specs.Listing.{okLine, refusedLine, shortInput, entryWord, entryLine, entryLines};
-ghost use Rattle.text.specs.Put.{Put, spacedWords};
+ghost use Rattle.text.specs.Put.{Put};
 
 // "ok", count and end
 pub fn ok(text: &mut [u8], count: u32, end: u32) -> usize

@@ -1,10 +1,8 @@
 -- The bit at o + i stands in the byte and at the place that the sum's quotient and remainder by 8 give.
 use borrow.Author.Needs.{needs}
 use mathlib.Core.Path.{_≡_}
-use Prim.Native.Nat.{ℕ, _+_, _-_, _/_, _%_, _^_}
-use native.Mathlib.Nat.{div-le-self}
+use Prim.Native.Nat.{ℕ, _+_, _/_, _%_}
 use native.Mathlib.Omega.{arith}
-use lib.ListN.{getD}
 use Rattle.bits.specs.Bits.{total, bit}
 use Rattle.bits.proofs.one_bit.Statement.{statement}
 use Rattle.bits.proofs.one_bit.Tie as tie
@@ -25,35 +23,18 @@ shared-slice-read-byte : tie.Need-shared-slice-read-byte
 unfolding total
 shared-slice-read-byte c = omega arith
 
+cast-byte : tie.Need-cast-byte
+cast-byte c = let a = c .before .args in omega (arith, c .shared-slice-known .given (a .o / 8 + (a .o % 8 + a .i) / 8))
+
 sub-result : tie.Need-sub-result
 sub-result c = search needs
 
-cast-result : tie.Need-cast-result
-cast-result c = search needs
-
 shr-result : tie.Need-shr-result
 shr-result c = search needs
-
-cast-result-2 : tie.Need-cast-result-2
-cast-result-2 c =
-    let a = c .before .args in
-    let k = a .o / 8 + (a .o % 8 + a .i) / 8 in
-    let shift = 2 ^ (7 - (a .o % 8 + a .i) % 8) in
-    omega (arith, div-le-self (getD (a .input .now) k 0) shift, c .shared-slice-known .given k)
 
 returns : tie.Need-returns
 unfolding bit
 returns c = rw (same-byte, same-place)
 
 pub one-bit-spec : {M : Type 1} → statement M
-one-bit-spec =
-    tie.close
-    (tie.spec
-    add-k
-    add-byte
-    shared-slice-read-byte
-    sub-result
-    cast-result
-    shr-result
-    cast-result-2
-    returns)
+one-bit-spec = tie.close (tie.spec add-k add-byte shared-slice-read-byte cast-byte sub-result shr-result returns)

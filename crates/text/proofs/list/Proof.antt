@@ -4,6 +4,7 @@ use native.Mathlib.Omega.{arith}
 use Prim.Native.Nat.{_≤_}
 use lib.ListN.{length}
 use Rattle.text.specs.Listing.{listing}
+use Rattle.text.specs.Inner.Lengths.{mostText}
 use Rattle.text.proofs.Putting.{put-ends, put-counts}
 use Rattle.text.proofs.list.Statement.{statement}
 use Rattle.text.proofs.list.Tie as tie
@@ -12,6 +13,7 @@ list-into-requires : tie.Need-list-into-requires
 list-into-requires c κs = search needs
 
 returns : tie.Need-returns
+unfolding mostText
 returns c =
     let l = c .list-into in
     let t = c .before .before .before .args .text .now in

@@ -1,6 +1,7 @@
 -- Fewer than two bytes, or a stated length and what follows it.
 use borrow.Author.Needs.{needs}
 use native.Mathlib.Omega.{arith}
+use Rattle.text.specs.Inner.Lengths.{mostText}
 use Rattle.text.proofs.Printed.{fits-as, short-fits, listing-short, listing-stated}
 use Rattle.text.proofs.list_into.Statement.{statement}
 use Rattle.text.proofs.list_into.Tie as tie
@@ -12,6 +13,7 @@ same-length : tie.Need-same-length
 same-length c = search needs
 
 returns : tie.Need-returns
+unfolding mostText
 returns c =
     let f = c .before .before in
     fits-as _ _ _ _ _ _ _ (listing-short (f .before .before .before .before .before .args .given .now) (f .before .before .if1 .taken)) (omega arith) (short-fits _ _ _ (f .short-input .ensures))

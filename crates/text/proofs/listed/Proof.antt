@@ -4,6 +4,7 @@ use native.Mathlib.Omega.{arith}
 use mathlib.Core.Path.{sym}
 use lib.Seq.{length-take-le}
 use mathlib.Core.Logic.{⊎-elim}
+use Rattle.text.specs.Inner.Lengths.{mostText}
 use Rattle.text.proofs.Printed.{fits-as, short-fits, listed-empty, listed-long, listed-short, listed-read}
 use Rattle.text.proofs.listed.Statement.{statement}
 use Rattle.text.proofs.listed.Tie as tie
@@ -15,6 +16,7 @@ same-length : tie.Need-same-length
 same-length c = search needs
 
 returns : tie.Need-returns
+unfolding mostText
 returns c =
     let f = c .before .before in
     let is-refused = ⊎-elim (λ w. listed-empty _ _ (w .taken)) (λ w. listed-long _ _ (w .1 .taken)) (f .before .before .if1 .came) in
@@ -27,6 +29,7 @@ same-length-2 : tie.Need-same-length-2
 same-length-2 c = search needs
 
 returns-2 : tie.Need-returns-2
+unfolding mostText
 returns-2 c =
     let f = c .before .before in
     let t = f .before .before in

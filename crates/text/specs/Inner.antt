@@ -1,0 +1,2 @@
+-- What the functions of this crate promise each other: nothing here is needed to believe what callers are promised.
+pub mod Lengths

@@ -15,14 +15,10 @@ enum { LIMIT = 65536, WIDE = 1 << 20, MOST_NODES = 64, MOST_BYTES = 1024, MOST_I
 
 /* A description, node by node from the front. */
 struct description {
-    const char *name;
     uint8_t bytes[MOST_BYTES];
     size_t length;
     unsigned nodes;
 };
-
-static struct description all[16];
-static size_t count;
 
 static const uint8_t input[MOST_INPUT];
 static uint32_t values[WORDS], descriptors[WORDS];
@@ -40,73 +36,71 @@ static uint8_t put(struct description *d, const uint8_t *bytes, size_t length) {
     return (uint8_t)d->nodes++;
 }
 
-#define NODE(d, ...) put(d, (const uint8_t[]){__VA_ARGS__}, sizeof((const uint8_t[]){__VA_ARGS__}))
-#define CONSTANT(n) 0, 0, 0, 0, n
-
 enum kind { UNIT, BOTTOM, BITS, SIGNED, THEN, BIND, EITHER, BOTH, WHERE, SEQUENCE, COMPUTE, ABSORB, SCAN };
 
-/* What goes around the nodes so far, which are at most 64 with it. */
-typedef uint8_t around(struct description *d, uint8_t inner);
+/* A level of a chain: a node of this kind around the nodes so far, with leaves for its other children; or such a node around a scan of them. */
+enum { INNER = -1, NONE = -2 };
 
-static uint8_t then_first(struct description *d, uint8_t inner) {
-    uint8_t other = NODE(d, UNIT);
-    return NODE(d, THEN, inner, other);
+struct level {
+    const char *name;
+    enum kind leaf, kind;
+    int children[3]; /* a kind of leaf, or INNER, or NONE */
+    uint8_t operand;
+    int scanned;
+};
+
+static const struct level levels[] = {
+    {"scans", UNIT, SCAN, {INNER, NONE, NONE}, 0, 0},
+    {"absorbs", UNIT, ABSORB, {INNER, NONE, NONE}, 0, 0},
+    {"wheres", BITS, WHERE, {INNER, NONE, NONE}, 0, 0},
+    {"thens, first", UNIT, THEN, {INNER, UNIT, NONE}, 0, 0},
+    {"thens, second", UNIT, THEN, {UNIT, INNER, NONE}, 0, 0},
+    {"binds, second", UNIT, BIND, {BITS, INNER, NONE}, 0, 0},
+    {"eithers, first", UNIT, EITHER, {INNER, UNIT, NONE}, 0, 0},
+    {"eithers, second", UNIT, EITHER, {BOTTOM, INNER, NONE}, 0, 0},
+    {"boths, second", UNIT, BOTH, {UNIT, INNER, NONE}, 0, 0},
+    {"sequences, element", UNIT, SEQUENCE, {INNER, UNIT, BOTTOM}, 1, 0},
+    {"sequences, separator", UNIT, SEQUENCE, {BITS, INNER, BOTTOM}, 2, 0},
+    {"sequences, terminator", BOTTOM, SEQUENCE, {BITS, UNIT, INNER}, 1, 0},
+    {"scans in eithers", UNIT, EITHER, {BOTTOM, INNER, NONE}, 0, 1},
+};
+
+enum { COUNT = sizeof levels / sizeof levels[0] };
+
+static struct description all[COUNT];
+
+static uint8_t put_leaf(struct description *d, int kind) {
+    const uint8_t bytes[] = {(uint8_t)kind, 1};
+    return put(d, bytes, kind == BITS ? 2 : 1);
 }
 
-static uint8_t then_second(struct description *d, uint8_t inner) {
-    uint8_t other = NODE(d, UNIT);
-    return NODE(d, THEN, other, inner);
+/* Puts a level around the node `inner`, and answers the number of the node around it. */
+static uint8_t put_level(struct description *d, const struct level *l, uint8_t inner) {
+    uint8_t bytes[9] = {(uint8_t)l->kind};
+    size_t length = 1;
+    if (l->scanned) inner = put(d, (const uint8_t[]){SCAN, inner}, 2);
+    for (int j = 0; j < 3 && l->children[j] != NONE; j++)
+        bytes[length++] = l->children[j] == INNER ? inner : put_leaf(d, l->children[j]);
+    if (l->kind == WHERE) bytes[length++] = 0; /* equal */
+    if (l->kind == WHERE || l->kind == SEQUENCE) {
+        memset(bytes + length, 0, 4); /* a constant, below 256 */
+        bytes[length + 4] = l->operand;
+        length += 5;
+    }
+    return put(d, bytes, length);
 }
 
-static uint8_t bind_second(struct description *d, uint8_t inner) {
-    uint8_t number = NODE(d, BITS, 1);
-    return NODE(d, BIND, number, inner);
+/* How many nodes a level takes. */
+static unsigned size_of(const struct level *l) {
+    unsigned nodes = 1 + (unsigned)l->scanned;
+    for (int j = 0; j < 3 && l->children[j] != NONE; j++) nodes += l->children[j] != INNER;
+    return nodes;
 }
 
-static uint8_t either_first(struct description *d, uint8_t inner) {
-    uint8_t other = NODE(d, UNIT);
-    return NODE(d, EITHER, inner, other);
-}
-
-static uint8_t either_second(struct description *d, uint8_t inner) {
-    uint8_t other = NODE(d, BOTTOM);
-    return NODE(d, EITHER, other, inner);
-}
-
-static uint8_t both_second(struct description *d, uint8_t inner) {
-    uint8_t other = NODE(d, UNIT);
-    return NODE(d, BOTH, other, inner);
-}
-
-static uint8_t where_equal(struct description *d, uint8_t inner) { return NODE(d, WHERE, inner, 0, CONSTANT(0)); }
-
-static uint8_t sequence_element(struct description *d, uint8_t inner) {
-    uint8_t separator = NODE(d, UNIT), terminator = NODE(d, BOTTOM);
-    return NODE(d, SEQUENCE, inner, separator, terminator, CONSTANT(1));
-}
-
-static uint8_t sequence_separator(struct description *d, uint8_t inner) {
-    uint8_t element = NODE(d, BITS, 1), terminator = NODE(d, BOTTOM);
-    return NODE(d, SEQUENCE, element, inner, terminator, CONSTANT(2));
-}
-
-static uint8_t sequence_terminator(struct description *d, uint8_t inner) {
-    uint8_t element = NODE(d, BITS, 1), separator = NODE(d, UNIT);
-    return NODE(d, SEQUENCE, element, separator, inner, CONSTANT(1));
-}
-
-static uint8_t absorbed(struct description *d, uint8_t inner) { return NODE(d, ABSORB, inner); }
-
-static uint8_t scanned(struct description *d, uint8_t inner) { return NODE(d, SCAN, inner); }
-
-static uint8_t scan_in_either(struct description *d, uint8_t inner) { return either_second(d, scanned(d, inner)); }
-
-/* As many around one leaf as 64 nodes allow, where one takes so many. */
-static void chain(const char *name, around *wrap, unsigned nodes, uint8_t leaf) {
-    struct description *d = &all[count++];
-    d->name = name;
-    uint8_t root = leaf == BITS ? NODE(d, BITS, 8) : NODE(d, leaf);
-    while (d->nodes + nodes <= MOST_NODES) root = wrap(d, root);
+/* As many levels around one leaf as 64 nodes allow. */
+static void describe(struct description *d, const struct level *l) {
+    uint8_t root = put_leaf(d, l->leaf);
+    while (d->nodes + size_of(l) <= MOST_NODES) root = put_level(d, l, root);
 }
 
 static void *read_it(void *argument) {
@@ -148,30 +142,14 @@ static void *limited(void *start(void *), void *argument) {
     return run(&attributes, start, argument);
 }
 
-static void describe(void) {
-    chain("scans", scanned, 1, UNIT);
-    chain("absorbs", absorbed, 1, UNIT);
-    chain("wheres", where_equal, 1, BITS);
-    chain("thens, first", then_first, 2, UNIT);
-    chain("thens, second", then_second, 2, UNIT);
-    chain("binds, second", bind_second, 2, UNIT);
-    chain("eithers, first", either_first, 2, UNIT);
-    chain("eithers, second", either_second, 2, UNIT);
-    chain("boths, second", both_second, 2, UNIT);
-    chain("sequences, element", sequence_element, 3, UNIT);
-    chain("sequences, separator", sequence_separator, 3, UNIT);
-    chain("sequences, terminator", sequence_terminator, 3, BOTTOM);
-    chain("scans in eithers", scan_in_either, 3, UNIT);
-}
-
 int main(void) {
     size_t before, used, most = 0;
-    describe();
     measured(read_nothing, NULL, &before);
-    for (size_t i = 0; i < count; i++) {
+    for (size_t i = 0; i < COUNT; i++) {
+        describe(&all[i], &levels[i]);
         uintptr_t wide = (uintptr_t)measured(read_it, &all[i], &used);
         uintptr_t narrow = (uintptr_t)limited(read_it, &all[i]);
-        printf("stack: %-22s %2u nodes %6zu bytes\n", all[i].name, all[i].nodes, used - before);
+        printf("stack: %-22s %2u nodes %6zu bytes\n", levels[i].name, all[i].nodes, used - before);
         if (wide % 65536 != 0) die("that reading was refused");
         if (wide != narrow) die("that reading differs on a small stack");
         if (used - before > most) most = used - before;

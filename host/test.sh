@@ -59,7 +59,7 @@ run_program() {
     echo "host: the program's words are as expected for $(ls "$out/cases" | wc -l) files"
 }
 
-# The deepest descriptions, each on a stack of the size that the header tells a host to give.
+# The deepest descriptions, each on a stack of the size that docs/DECISIONS.md tells a host to give.
 measure_stack() {
     gcc -std=c99 "${strict[@]}" host/stack.c "$library" -lpthread -o "$out/stack" || fail "host/stack.c is no C99"
     "$out/stack" || fail "the reader needs more stack than host/stack.c gives it"

@@ -1,13 +1,24 @@
-//! Times the proved reader, through its static library, beside the same reader written in Rust, over records of intervals.
+//! Times the proved reader, through its static library, over records of intervals, beside two in Rust: its own source without the contracts,
+//! compiled by rustc, and a reader written for Rust.
 //!
-//! With no argument: both are compared on some readings, then timed. With `calls proved|rust BYTES TIMES` it only makes so many calls of one of
-//! the two over so many bytes, and prints the entries of a call: a profiler is run over that.
+//! With no argument: the three are compared on some readings, then timed. With `calls proved|same|rust BYTES TIMES` it only makes so many calls of
+//! one of them over so many bytes, and prints the entries of a call: a profiler is run over that.
 
 #[path = "plain/description.rs"]
 mod description;
 #[path = "plain/reader.rs"]
 mod reader;
+// The proved crates' source as `run.sh` writes it: not all that they offer is called here, and some parameters are for a contract alone.
+#[allow(dead_code, unused_variables)]
+#[path = "../target/bench/same"]
+mod same {
+    pub mod bits;
+    pub mod description;
+    pub mod reader;
+}
 
+use same::description::refusals;
+use same::reader::Answer;
 use std::hint::black_box;
 use std::time::Instant;
 
@@ -43,13 +54,25 @@ fn proved(desc: &[u8], input: &[u8], values: &mut [u32], descriptors: &mut [u32]
     }
 }
 
+fn same_source(desc: &[u8], input: &[u8], values: &mut [u32], descriptors: &mut [u32]) -> u64 {
+    match same::reader::read(desc, input, values, descriptors) {
+        Answer::Success { count, end } => (u64::from(count) << 16) + (u64::from(end) << 32),
+        Answer::BadDescription(r) => u64::from(refusals::number(r)) + 256 * u64::from(refusals::node(r)),
+        Answer::InputTooLong => 12,
+        Answer::NoRoom => 13,
+    }
+}
+
+/// The proved reader, its own source compiled by rustc, and the one written in Rust.
+const READERS: [(&str, Read); 3] = [("proved", proved), ("same", same_source), ("rust", reader::read)];
+
 /// Two counters of 16 bits and the use between them, modulo 2^16, over and over: a sequence with a unit as its separator, a bottom as its
 /// terminator and -1 as its operand, so that it ends with the input.
 const INTERVALS: &str = "02 10 02 10 0A 10 01 01 00 00 00 00 01 00 00 00 01 05 01 02 05 00 03 00 01 09 04 05 06 00 FF FF FF FF";
 
 const CASE_A: &str = "02 10 02 10 0A 10 01 01 00 00 00 00 01 00 00 00 01 05 01 02 05 00 03";
 
-/// Readings on which both have to give the same answer and the same tables: 01's, and others for each kind and for each refusal of a call.
+/// Readings on which all have to give the same answer and the same tables: 01's, and others for each kind and for each refusal of a call.
 const READINGS: &[(&str, &str)] = &[
     (CASE_A, "FF FA 00 04"),
     (CASE_A, "FF FF 00 00"),
@@ -109,9 +132,12 @@ fn outcome(read: Read, desc: &[u8], input: &[u8], values: usize, descriptors: us
 
 fn compare(desc: &[u8], input: &[u8], values: usize, descriptors: usize) {
     let ours = outcome(proved, desc, input, values, descriptors);
-    let plain = outcome(reader::read, desc, input, values, descriptors);
-    assert_eq!(ours.0, plain.0, "the answers differ: {desc:02X?} over {} bytes, tables of {values} and {descriptors} words", input.len());
-    assert!(ours == plain, "the tables differ: {desc:02X?} over {} bytes, tables of {values} and {descriptors} words", input.len());
+    for (name, read) in &READERS[1..] {
+        let other = outcome(*read, desc, input, values, descriptors);
+        let case = || format!("proved and {name}, {desc:02X?} over {} bytes, tables of {values} and {descriptors} words", input.len());
+        assert_eq!(ours.0, other.0, "the answers differ: {}", case());
+        assert!(ours == other, "the tables differ: {}", case());
+    }
 }
 
 /// Returns how many readings were compared.
@@ -153,12 +179,12 @@ impl Record {
         black_box(read(black_box(&self.desc), black_box(&self.input), black_box(&mut self.values), black_box(&mut self.descriptors)))
     }
 
-    /// Nanoseconds a call of each, the best of some rounds: what disturbs a round only adds. The two take turns, so that it meets both.
-    fn time(&mut self) -> [f64; 2] {
+    /// Nanoseconds a call of each, the best of some rounds: what disturbs a round only adds. They take turns, so that it meets all.
+    fn time(&mut self) -> [f64; 3] {
         let turns = 6_000usize.div_ceil(self.entries);
-        let mut best = [f64::INFINITY; 2];
+        let mut best = [f64::INFINITY; 3];
         for _ in 0..3_000 {
-            for (read, best) in [proved as Read, reader::read].into_iter().zip(&mut best) {
+            for ((_, read), best) in READERS.into_iter().zip(&mut best) {
                 let start = Instant::now();
                 for _ in 0..turns {
                     self.call(read);
@@ -171,18 +197,19 @@ impl Record {
 }
 
 fn time_all() {
-    println!("{:>11}  {:>7}  {:>11}  {:>11}  {:>11}  {:>8}", "input bytes", "entries", "table words", "proved", "Rust", "ratio");
+    println!("                                      its source                        ratio to its  to the one");
+    println!("input bytes  entries       proved     under rustc  written in Rust        source     in Rust");
     let mut each = Vec::new();
     for length in [80, 800, 8191] {
         let mut record = Record::new(length);
-        let [ours, plain] = record.time();
-        let (entries, words) = (record.entries, record.values.len());
-        println!("{length:>11}  {entries:>7}  {words:>11}  {ours:>8.0} ns  {plain:>8.0} ns  {:>8.3}", ours / plain);
-        each.push((length, [ours, plain].map(|t| t / entries as f64)));
+        let [ours, same, plain] = record.time();
+        let entries = record.entries;
+        println!("{length:>11}  {entries:>7}  {ours:>8.0} ns  {same:>11.0} ns  {plain:>12.0} ns  {:>12.3}  {:>10.3}", ours / same, ours / plain);
+        each.push((length, [ours, same, plain].map(|t| t / entries as f64)));
     }
     println!("an entry:");
-    for (length, [ours, plain]) in each {
-        println!("{length:>11}  {:>7}  {:>11}  {ours:>8.2} ns  {plain:>8.2} ns", "", "");
+    for (length, [ours, same, plain]) in each {
+        println!("{length:>11}  {:>7}  {ours:>8.2} ns  {same:>11.2} ns  {plain:>12.2} ns", "");
     }
 }
 
@@ -195,14 +222,15 @@ fn main() {
             println!("each table has four words for each entry, all cleared at each call");
             time_all();
         }
-        ["calls", which @ ("proved" | "rust"), length, times] => {
+        ["calls", which, length, times] => {
+            let (_, read) = READERS.into_iter().find(|(name, _)| *name == which).expect("proved, same or rust");
             let number = |word: &str| word.parse::<usize>().expect("a number");
             let mut record = Record::new(number(length));
             for _ in 0..number(times) {
-                record.call(if which == "proved" { proved } else { reader::read });
+                record.call(read);
             }
             println!("{}", record.entries);
         }
-        _ => panic!("use: read, or: read calls proved|rust BYTES TIMES"),
+        _ => panic!("use: read, or: read calls proved|same|rust BYTES TIMES"),
     }
 }

@@ -5,11 +5,11 @@ mod Bodies
 mod Children
 mod Rows
 mod Firsts
-mod Refusing
-mod Marking
+pub mod Refusing
+pub mod Marking
 mod Numbered
 mod Parsing
-mod Trees
+pub mod Trees
 mod Walking
 pub mod Visiting
 mod Standing

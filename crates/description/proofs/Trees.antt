@@ -14,11 +14,11 @@ use Rattle.description.specs.Trees.{Tree, unit, tree, treesAfter, rootTr
 use Rattle.description.proofs.Choice.{or-left-false, or-right-false}
 use Rattle.description.proofs.Numbered.{grown-at, nodes-length}
 
--- the tree of the next node, after the trees of those before
-next : List Tree → Node → Tree
+-- The tree of the next node, after the trees of those before.
+unfoldable pub next : List Tree → Node → Tree
 next ts node = tree (λ c. getD ts c (unit 0)) (length ts) node
 
-trees-snoc : (before : List Tree) (ns : List Node) (node : Node) → treesAfter before (ns ++ (node ∷ [])) ≡ treesAfter before ns ++ (next (treesAfter before ns) node ∷ [])
+pub trees-snoc : (before : List Tree) (ns : List Node) (node : Node) → treesAfter before (ns ++ (node ∷ [])) ≡ treesAfter before ns ++ (next (treesAfter before ns) node ∷ [])
 unfolding treesAfter next
 trees-snoc before [] node = refl
 trees-snoc before (n ∷ ns) node = trees-snoc (before ++ (next before n ∷ [])) ns node

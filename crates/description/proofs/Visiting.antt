@@ -21,18 +21,18 @@ use Rattle.description.proofs.Ranges.{between, by-kind}
 use Rattle.description.proofs.Standing.{listed-here, child-below, smaller-placed, tree-here, needs-here, binds-here}
 use Rattle.description.proofs.Walking.{walk-child}
 
--- a width that is listed
-width-few : (w : ℕ) → isWidth w ≡ true → w ≤ 32
+-- A width that is listed.
+pub width-listed : (w : ℕ) → isWidth w ≡ true → (1 ≤ w) × (w ≤ 32)
 unfolding isWidth
-width-few w e = leb-true w 32 (and-right (leb 1 w) (leb w 32) e)
+width-listed w e = (leb-true 1 w (and-left (leb 1 w) (leb w 32) e), leb-true w 32 (and-right (leb 1 w) (leb w 32) e))
 
-signed-few : (w : ℕ) → isSignedWidth w ≡ true → w ≤ 32
+pub signed-listed : (w : ℕ) → isSignedWidth w ≡ true → (1 ≤ w) × (w ≤ 32)
 unfolding isSignedWidth
-signed-few w e =
-    either-way (eqb w 8) (λ a. omega (arith, eqb-true w 8 a))
+signed-listed w e =
+    either-way (eqb w 8) (λ a. let h = eqb-true w 8 a in (omega arith, omega arith))
     (λ a.
-    either-way (eqb w 16) (λ b. omega (arith, eqb-true w 16 b))
-    (λ b. omega (arith, eqb-true w 32 (sym (rw (a, b)) ∙ e))))
+    either-way (eqb w 16) (λ b. let h = eqb-true w 16 b in (omega arith, omega arith))
+    (λ b. let h = eqb-true w 32 (sym (rw (a, b)) ∙ e) in (omega arith, omega arith)))
 
 module _ (d : List ℕ) (node : ℕ) where
   -- the tree of the node's child at place j
@@ -162,10 +162,10 @@ module _ (d starts : List ℕ) (node : ℕ) (p : Placed d starts node) where
   unfolding rowOf kinds
   number-width kind e low high =
       between (λ k. kindOf d node ≡ k → fieldOf d node 0 ≤ 32) 2 2
-      ((λ e. few (width-few (byte d (start d node + 1)) (listed-as 2 e))), ((λ e. few (signed-few (byte d (start d node + 1)) (listed-as 3 e))), tt))
+      ((λ e. few (width-listed (byte d (start d node + 1)) (listed-as 2 e) .1)), ((λ e. few (signed-listed (byte d (start d node + 1)) (listed-as 3 e) .1)), tt))
       kind low high e
 
   pub compute-width : kindOf d node ≡ 10 → fieldOf d node 0 ≤ 32
   unfolding rowOf kinds
   compute-width e =
-      few (width-few (byte d (start d node + 1)) (and-left _ _ (and-left _ _ (and-left _ _ (listed-as 10 e)))))
+      few (width-listed (byte d (start d node + 1)) (and-left _ _ (and-left _ _ (and-left _ _ (listed-as 10 e)))) .1)

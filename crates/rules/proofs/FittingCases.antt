@@ -14,8 +14,8 @@ use Rattle.rules.specs.Entries.{Entry}
 use Rattle.rules.specs.Fitting.{Leaf, Turns, isSigned, recorded, Fits}
 use Rattle.rules.specs.Numbers.{valueOf, result}
 
--- a line of the listing
-entry : (node begin end code errors number detail size : ℕ) → Entry
+-- A line of the listing.
+abbrev pub entry : (node begin end code errors number detail size : ℕ) → Entry
 entry node begin end code errors number detail size =
     record { node = node; number = number; detail = detail; size = size; begin = begin; end = end; code = code; errors = errors }
 
@@ -63,7 +63,7 @@ unfolding Fits entry
 skipped child beneath fits = let detail : _≡_ {A = ℕ} 8 0 = fits .1 in omega arith
 
 -- 5 bits are there and a second 5 are not: read with 1 error; one element over those 5 bits fits
-absorbed : Fits (0x00 ∷ []) (absorb 4 (sequence 3 (bits 0 5) (unit 1) (bottom 2) (constant (negsuc 0)))) [] (entry 4 0 5 1 1 0 0 1) []
+pub absorbed : Fits (0x00 ∷ []) (absorb 4 (sequence 3 (bits 0 5) (unit 1) (bottom 2) (constant (negsuc 0)))) [] (entry 4 0 5 1 1 0 0 1) []
 unfolding Fits entry total number bit
 absorbed = (
   leaf 4 _ refl refl,

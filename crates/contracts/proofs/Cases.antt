@@ -1,0 +1,62 @@
+-- Calls that the reader's contract allows, and that meet the hypotheses of what is shown of callers and of wrong readers.
+use mathlib.Core.List.{[], _∷_}
+use mathlib.Core.Path.{_≡_, refl}
+use lib.IntN.{negsuc}
+use lib.ListN.{length}
+use Rattle.bits.specs.Bits.{total}
+use Rattle.description.specs.Check.{accepted, meaning}
+use Rattle.description.specs.Nodes.{constant}
+use Rattle.description.specs.Trees.{Tree, unit, bottom, bits, sequence}
+use Rattle.rules.specs.Outcome.{Outcome, outcome}
+use Rattle.rules.specs.Reading.{read}
+use Rattle.rules.proofs.Evaluate.{evaluated}
+use Rattle.promises.specs.Places.{ZeroErrorsFit, FitsZeroErrors}
+use Rattle.promises.specs.Spans.{Spans}
+use Rattle.promises.specs.Table.{entryAt}
+use Rattle.promises.proofs.Cases.{counters, turned, counters-tree, counters-mean}
+use Rattle.reader.specs.Answers.{said, given}
+use Rattle.reader.specs.declared.Answer.the-variants.{Success}
+use Rattle.contracts.proofs.Callers.{caller-spans, caller-fits, caller-clean}
+use Rattle.contracts.proofs.WrongReaders.{elements, entry-count, element-count}
+
+-- case A's call
+abbrev o : Outcome
+o = outcome 20 20 counters turned
+
+turned-call : given (Success 5 32) (o .values) (o .descriptors) ≡ o
+unfolding evaluated given said
+turned-call = refl
+
+turned-spans : Spans (entryAt (o .values) (o .descriptors)) 5 32
+unfolding total
+turned-spans = caller-spans 20 20 counters turned 5 32 (o .values) (o .descriptors) turned-call
+
+turned-fits : ZeroErrorsFit turned counters-tree (entryAt (o .values) (o .descriptors)) 5
+turned-fits = caller-fits 20 20 counters turned 5 32 (o .values) (o .descriptors) turned-call counters-tree counters-mean
+
+turned-clean : FitsZeroErrors turned counters-tree (entryAt (o .values) (o .descriptors)) 5
+turned-clean = caller-clean 20 20 counters turned 5 32 (o .values) (o .descriptors) turned-call counters-tree counters-mean
+
+turned-count : 5 ≡ length (read turned counters-tree [] 0 .entries)
+turned-count = entry-count 20 20 counters turned 5 32 (o .values) (o .descriptors) turned-call counters-tree counters-mean
+
+-- bytes over 01 02
+abbrev two : Outcome
+two = outcome 16 16 elements (0x01 ∷ 0x02 ∷ [])
+
+abbrev elements-tree : Tree
+elements-tree = sequence 3 (bits 0 8) (unit 1) (bottom 2) (constant (negsuc 0))
+
+elements-mean : meaning elements ≡ accepted elements-tree
+unfolding evaluated
+elements-mean = refl
+
+two-call : given (Success 4 16) (two .values) (two .descriptors) ≡ two
+unfolding evaluated given said
+two-call = refl
+
+two-elements : entryAt (two .values) (two .descriptors) 0 .detail ≡ 2
+unfolding evaluated
+two-elements =
+    element-count 16 16 elements (0x01 ∷ 0x02 ∷ []) 4 16 (two .values) (two .descriptors) two-call elements-tree elements-mean 3 (bits 0 8) (unit 1) (bottom 2)
+    (constant (negsuc 0)) refl

@@ -1,0 +1,6 @@
+-- What the contracts allow, and what they shut out.
+pub mod Determined
+pub mod Answers
+pub mod Callers
+pub mod WrongReaders
+pub mod Cases

@@ -1,0 +1,1 @@
+// What the contracts of the other crates allow, and what they shut out: proofs/. There is no code here.

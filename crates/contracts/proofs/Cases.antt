@@ -1,22 +1,26 @@
 -- Calls that the reader's contract allows, and that meet the hypotheses of what is shown of callers and of wrong readers.
+use Prim.Native.Nat.{_≤_, _<_}
 use mathlib.Core.List.{[], _∷_}
+use mathlib.Core.Logic.{_⊎_}
 use mathlib.Core.Path.{_≡_, refl}
+use lib.Dec.{lit≤}
 use lib.IntN.{negsuc}
 use lib.ListN.{length}
 use Rattle.bits.specs.Bits.{total}
 use Rattle.description.specs.Check.{accepted, meaning}
 use Rattle.description.specs.Nodes.{constant}
 use Rattle.description.specs.Trees.{Tree, unit, bottom, bits, sequence}
-use Rattle.rules.specs.Outcome.{Outcome, outcome}
+use Rattle.rules.specs.Outcome.{Outcome, mostInput, outcome}
 use Rattle.rules.specs.Reading.{read}
+use Rattle.rules.specs.Tables.{room}
 use Rattle.rules.proofs.Evaluate.{evaluated}
 use Rattle.promises.specs.Places.{ZeroErrorsFit, FitsZeroErrors}
 use Rattle.promises.specs.Spans.{Spans}
 use Rattle.promises.specs.Table.{entryAt}
 use Rattle.promises.proofs.Cases.{counters, turned, counters-tree, counters-mean}
 use Rattle.reader.specs.Answers.{said, given}
-use Rattle.reader.specs.declared.Answer.the-variants.{Success}
-use Rattle.contracts.proofs.Callers.{caller-spans, caller-fits, caller-clean}
+use Rattle.reader.specs.declared.Answer.the-variants.{Success, NoRoom}
+use Rattle.contracts.proofs.Callers.{caller-unstuck, caller-spans, caller-fits, caller-clean}
 use Rattle.contracts.proofs.WrongReaders.{elements, entry-count, element-count}
 
 -- case A's call
@@ -26,6 +30,11 @@ o = outcome 20 20 counters turned
 turned-call : given (Success 5 32) (o .values) (o .descriptors) ≡ o
 unfolding evaluated given said
 turned-call = refl
+
+turned-unstuck : (let n = length (read turned counters-tree [] 0 .entries) in
+    ((n ≤ 5) × (Success 5 32 ≡ Success n (read turned counters-tree [] 0 .end))) ⊎ ((5 < n) × (Success 5 32 ≡ NoRoom)))
+unfolding room mostInput
+turned-unstuck = caller-unstuck 20 20 counters turned counters-tree counters-mean (lit≤ tt) (Success 5 32) (o .values) (o .descriptors) turned-call
 
 turned-spans : Spans (entryAt (o .values) (o .descriptors)) 5 32
 unfolding total

@@ -14,12 +14,15 @@ use Rattle.description.specs.Trees.{Tree, unit, bottom, bits, signed, bind, eit
 use Rattle.description.proofs.Ranges.{between}
 use Rattle.rules.specs.Entries.{Entry}
 use Rattle.rules.specs.Outcome.{success, noRoom, outcome}
+use Rattle.rules.specs.Reading.{doneAt, read}
+use Rattle.rules.specs.Rounds.{rounds}
 use Rattle.rules.proofs.Evaluate.{evaluated}
 use Rattle.rules.proofs.FittingCases.{entry, absorbed}
 use Rattle.promises.specs.Places.{here, turns, placeIn, placeOf, FitsAt, absorbs, NoneAbsorbed, ZeroErrorsFit}
 use Rattle.promises.specs.Spans.{Spans}
 use Rattle.promises.specs.Table.{entryAt, after, entries, beneath}
 use Rattle.promises.proofs.Accepted.{accepted-sound}
+use Rattle.promises.proofs.Bounds.{sequence-bound}
 use Rattle.promises.proofs.Copied.{Copy, copied-bits, copied-signed}
 use Rattle.promises.proofs.EachEntry.{zero-errors-fit, fits-zero-errors}
 use Rattle.promises.proofs.Sound.{Sound}
@@ -80,6 +83,13 @@ record-fits = zero-errors-fit 20 20 counters turned 5 32 turned-read counters-tr
 record-clean : at 0 .errors ≡ 0
 unfolding absorbs isIn
 record-clean = fits-zero-errors 20 20 counters turned 5 32 turned-read counters-tree counters-mean 0 (lit< tt) record-fits (λ k from to. refl)
+
+-- a sequence of 5 bits over one byte has the same rounds with 100 allowed as with 8
+five-bits : (let done = doneAt (0x00 ∷ []) (negsuc 0) (read (0x00 ∷ []) (bottom 2) []) in
+    rounds (read (0x00 ∷ []) (bits 0 5) []) (read (0x00 ∷ []) (unit 1) []) done 100 0
+    ≡ rounds (read (0x00 ∷ []) (bits 0 5) []) (read (0x00 ∷ []) (unit 1) []) done 8 0)
+unfolding total
+five-bits = sequence-bound (0x00 ∷ []) (bits 0 5) (unit 1) (bottom 2) (negsuc 0) [] 100 0 (lit≤ tt) (lit≤ tt)
 
 -- An absorb in the part that an either did not take: no entry is of it, and the either has zero errors because it fits.
 abbrev choice : List ℕ

@@ -1,11 +1,12 @@
 -- Entries of a table, from an index on, that are those of a list.
 use Prim.Native.Nat.{ℕ, suc, _+_}
 use mathlib.Core.List.{List, [], _∷_, _++_}
-use mathlib.Core.Path.{_≡_, refl, subst}
+use mathlib.Core.Path.{_≡_, refl, ap, subst}
 use native.Mathlib.Omega.{arith}
 use lib.ListN.{length}
-use Rattle.rules.specs.Entries.{Entry}
-use Rattle.promises.specs.Table.{entries}
+use Rattle.rules.specs.Entries.{Entry, Reading}
+use Rattle.rules.proofs.Heads.{Headed}
+use Rattle.promises.specs.Table.{after, entries}
 
 -- from entry i on the table has these entries
 abbrev pub Agrees : (at : ℕ → Entry) → ℕ → List Entry → Type 0
@@ -27,3 +28,12 @@ module _ (at : ℕ → Entry) where
   unfolding entries
   agrees-entries [] i a = refl
   agrees-entries (e ∷ es) i a = rw (a .0, agrees-entries es (suc i) (a .1))
+
+  -- A reading's own entry stands first, and the entry after its subtree is the one after all of its entries.
+  module _ {n o : ℕ} {r : Reading} (h : Headed n o r) (i : ℕ) (a : Agrees at i (r .entries)) where
+    pub agrees-own : Agrees at i (h .own ∷ h .beneath)
+    agrees-own = subst (Agrees at i) (h .entries) a
+
+    pub subtree-after : after at i ≡ i + length (r .entries)
+    unfolding after
+    subtree-after = omega (arith, ap (λ (e : Entry). e .size) (agrees-own .0), h .size, ap length (h .entries))

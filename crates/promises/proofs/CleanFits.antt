@@ -11,13 +11,13 @@ use lib.IntN.{ℤ, pos}
 use lib.Pow.{pow-mono}
 use borrow.Author.Tests.{leb-true}
 use Rattle.bits.specs.Bits.{total, number}
-use Rattle.bits.specs.Whole.{twosComplement, word}
+use Rattle.bits.specs.Whole.{word}
 use Rattle.bits.proofs.Numbers.{number-below, number-small}
 use Rattle.bits.proofs.Words.{modulo-below, signed-word}
 use Rattle.description.specs.Nodes.{Relation, Operator, Operand}
 use Rattle.description.specs.Trees.{Tree, unit, bottom, bits, signed, then, bind, either, both, where′, sequence, compute, absorb, scan}
 use Rattle.description.proofs.Choice.{by-test, by-search}
-use Rattle.rules.specs.Entries.{Entry, Reading, reading, any, fail}
+use Rattle.rules.specs.Entries.{Entry, Reading, reading, any, ok, fail}
 use Rattle.rules.specs.Fitting.{recorded, Leaf, Fits}
 use Rattle.rules.specs.Numbers.{valueOf, holds, result}
 use Rattle.rules.specs.Reading.{twoSides, readBits, doneAt, read}
@@ -45,19 +45,12 @@ module _ (input : List ℕ) where
   CleanFits t lent r = r .errors ≡ 0 → FitsRun input t lent (r .entries)
 
   module _ (lent : List ℤ) (n o : ℕ) where
-    bits-fits : (w : ℕ) → w ≤ 32 → CleanFits (bits n w) lent (readBits input n o w (pos (number input o w)))
-    unfolding readBits reading Fits
-    bits-fits w h =
-        by-test (CleanFits (bits n w) lent) (leb (o + w) (total input))
-        (λ e z. (alone n _ refl refl, refl, leb-true (o + w) (total input) e, word-small (number input o w) (number-small input o w h)))
-        (λ e z. absurd (omega arith))
-
-    signed-fits : (w : ℕ) → w ≤ 32 → CleanFits (signed n w) lent (readBits input n o w (twosComplement w (number input o w)))
-    unfolding readBits reading Fits
-    signed-fits w h =
-        by-test (CleanFits (signed n w) lent) (leb (o + w) (total input))
-        (λ e z. (alone n _ refl refl, refl, leb-true (o + w) (total input) e, signed-word w (number input o w) h (number-below input o w)))
-        (λ e z. absurd (omega arith))
+    -- bits and signed: with no error the bits are all there
+    there-fits : (t : Tree) (w : ℕ) (z : ℤ) → (o + w ≤ total input → FitsRun input t lent (reading n o (o + w) 0 ok z 0 [] .entries))
+        → CleanFits t lent (readBits input n o w z)
+    unfolding readBits reading
+    there-fits t w z fits =
+        by-test (CleanFits t lent) (leb (o + w) (total input)) (λ e y. fits (leb-true (o + w) (total input) e)) (λ e y. absurd (omega arith))
 
     compute-fits : (w : ℕ) (f : Operator) (x y : Operand) → w ≤ 32 → CleanFits (compute n w f x y) lent (read input (compute n w f x y) lent o)
     unfolding read reading Fits
@@ -174,8 +167,10 @@ module _ (input : List ℕ) where
   unfolding read reading Fits
   clean-fits (unit n) sound lent o = λ z. (alone n _ refl refl, refl)
   clean-fits (bottom n) sound lent o = λ z. absurd (omega arith)
-  clean-fits (bits n w) sound lent o = bits-fits lent n o w (sound .1)
-  clean-fits (signed n w) sound lent o = signed-fits lent n o w (sound .1)
+  clean-fits (bits n w) sound lent o =
+      there-fits lent n o (bits n w) w _ (λ h. (alone n _ refl refl, refl, h, word-small (number input o w) (number-small input o w (sound .1))))
+  clean-fits (signed n w) sound lent o =
+      there-fits lent n o (signed n w) w _ (λ h. (alone n _ refl refl, refl, h, signed-word w (number input o w) (sound .1) (number-below input o w)))
   clean-fits (then n a b) sound lent o = then-fits lent n o a b (clean-fits a (sound .0) lent o) (clean-fits b (sound .1) lent (read input a lent o .end))
   clean-fits (bind n a b) sound lent o =
       bind-fits lent n o a b (sound .0) (sound .1) (clean-fits a (sound .1) lent o) (λ z. clean-fits b (sound .2) (z ∷ lent) (read input a lent o .end))

@@ -27,27 +27,26 @@ pub record Copy (root : Tree) (at : ℕ → Entry) (count : ℕ) (t : Tree) (i j
   pub number : at j .number ≡ at i .number
 
 module _ (input : List ℕ) (root : Tree) (at : ℕ → Entry) (count : ℕ) (demand : ZeroErrorsFit input root at count) (i j : ℕ) where
-  -- where demand 3 holds, both entries fit
   fits : (t : Tree) (lent : List ℤ) (k : ℕ) → k < count → placeOf root at k ≡ some (record { tree = t; lent = lent }) → at k .errors ≡ 0
       → Fits input t lent (at k) (beneath at k)
   fits t lent k inside of clean =
       let f = demand k inside clean in
       subst (λ (q : Place). Fits input (q .tree) (q .lent) (at k) (beneath at k)) (some-same (sym (f .is) ∙ of)) (f .fits)
 
+  -- where demand 3 holds, both entries fit
+  both-fit : (t : Tree) (c : Copy root at count t i j) → Fits input t (c .lent) (at i) (beneath at i) × Fits input t (c .lent) (at j) (beneath at j)
+  both-fit t c = (fits t (c .lent) i (c .first) (c .first-of) (c .first-clean), fits t (c .lent) j (c .later) (c .later-of) (c .later-clean))
+
   pub copied-bits : (n w : ℕ) → Copy root at count (bits n w) i j → (number input (at j .begin) w ≡ number input (at i .begin) w → ⊥) → ⊥
   unfolding Fits
-  copied-bits n w c differ =
-      let a = fits (bits n w) (c .lent) i (c .first) (c .first-of) (c .first-clean) in
-      let b = fits (bits n w) (c .lent) j (c .later) (c .later-of) (c .later-clean) in
-      differ (sym (b .3) ∙ c .number ∙ a .3)
+  copied-bits n w c differ = let f = both-fit (bits n w) c in differ (sym (f .1 .3) ∙ c .number ∙ f .0 .3)
 
   pub copied-signed : (n w : ℕ) → Copy root at count (signed n w) i j → (number input (at j .begin) w ≡ number input (at i .begin) w → ⊥) → ⊥
   unfolding Fits
   copied-signed n w c differ =
-      let a = fits (signed n w) (c .lent) i (c .first) (c .first-of) (c .first-clean) in
-      let b = fits (signed n w) (c .lent) j (c .later) (c .later-of) (c .later-clean) in
+      let f = both-fit (signed n w) c in
       let same : twosComplement w (number input (at j .begin) w) ≡ twosComplement w (number input (at i .begin) w) =
-      sym (b .3) ∙ ap (twosComplement 32) (c .number) ∙ a .3 in
+      sym (f .1 .3) ∙ ap (twosComplement 32) (c .number) ∙ f .0 .3 in
       differ
       (sym (modulo-twos w (number input (at j .begin) w) (number-below input (at j .begin) w))
       ∙ ap (modulo w) same

@@ -16,10 +16,10 @@ use Rattle.rules.specs.Outcome.{success, outcome}
 use Rattle.rules.specs.Reading.{read}
 use Rattle.rules.proofs.Heads.{Headed, nodeOf, read-headed}
 use Rattle.promises.specs.Places.{Place, placeOf, FitsAt, absorbs, NoneAbsorbed, ZeroErrorsFit, FitsZeroErrors}
-use Rattle.promises.specs.Table.{entryAt, after, entries, beneath}
+use Rattle.promises.specs.Table.{entryAt, entries, beneath}
 use Rattle.promises.proofs.Absorbing.{Off}
 use Rattle.promises.proofs.Accepted.{accepted-sound}
-use Rattle.promises.proofs.Agreeing.{Agrees, agrees-entries}
+use Rattle.promises.proofs.Agreeing.{Agrees, agrees-entries, agrees-own, subtree-after}
 use Rattle.promises.proofs.CleanFits.{clean-fits}
 use Rattle.promises.proofs.FitsClean.{fits-clean}
 use Rattle.promises.proofs.Located.{Located}
@@ -37,21 +37,14 @@ accepted-same e = cc
 module _ (at : ℕ → Entry) where
   -- a table that has a reading's entries from entry i on
   module _ {n o : ℕ} (i : ℕ) (r : Reading) (h : Headed n o r) (agrees : Agrees at i (r .entries)) where
-    own : Agrees at i (h .own ∷ h .beneath)
-    own = subst (Agrees at i) (h .entries) agrees
-
     own-beneath : beneath at i ≡ h .beneath
     unfolding beneath
     own-beneath =
-        let few : at i .size - 1 ≡ length (h .beneath) = omega (arith, ap (λ (e : Entry). e .size) (own .0), h .size) in
-        ap (entries at (suc i)) few ∙ agrees-entries at (h .beneath) (suc i) (own .1)
-
-    own-after : after at i ≡ i + length (r .entries)
-    unfolding after
-    own-after = omega (arith, ap (λ (e : Entry). e .size) (own .0), h .size, ap length (h .entries))
+        let few : at i .size - 1 ≡ length (h .beneath) = omega (arith, ap (λ (e : Entry). e .size) (agrees-own at h i agrees .0), h .size) in
+        ap (entries at (suc i)) few ∙ agrees-entries at (h .beneath) (suc i) (agrees-own at h i agrees .1)
 
     own-errors : at i .errors ≡ r .errors
-    own-errors = ap (λ (e : Entry). e .errors) (own .0) ∙ h .errors
+    own-errors = ap (λ (e : Entry). e .errors) (agrees-own at h i agrees .0) ∙ h .errors
 
   -- entries of a table of which none is of a node in a list
   off-all : (ns : List ℕ) (es : List Entry) (i : ℕ) → Agrees at i es → ((k : ℕ) → i ≤ k → k < i + length es → isIn (at k .node) ns ≡ false) → Off ns es
@@ -78,14 +71,14 @@ module _ (input : List ℕ) (root : Tree) (at : ℕ → Entry) (i : ℕ) (l : Lo
   clean-here : at i .errors ≡ 0 → FitsAt input root at i
   clean-here z =
       let fits = asked-head (Fits input tree lent) h (clean-fits input tree (l .sound) lent (l .offset) (sym (own-errors at i r h (l .agrees)) ∙ z)) in
-      record { place = l .place; is = l .is; fits = rw (own at i r h (l .agrees) .0, own-beneath at i r h (l .agrees)) fits }
+      record { place = l .place; is = l .is; fits = rw (agrees-own at h i (l .agrees) .0, own-beneath at i r h (l .agrees)) fits }
 
   fits-here : FitsAt input root at i → NoneAbsorbed root at i → at i .errors ≡ 0
   fits-here f none =
       let same : f .place ≡ l .place = some-same (sym (f .is) ∙ l .is) in
       let fits : Fits input tree lent (at i) (beneath at i) = subst (λ (p : Place). Fits input (p .tree) (p .lent) (at i) (beneath at i)) same (f .fits) in
-      let run = head-asked (Fits input tree lent) h (rw (sym (own at i r h (l .agrees) .0), sym (own-beneath at i r h (l .agrees))) fits) in
-      let off = off-all at (absorbs tree) (r .entries) i (l .agrees) (λ k from to. l .under (at k .node) (none k from (omega (arith, own-after at i r h (l .agrees))))) in
+      let run = head-asked (Fits input tree lent) h (rw (sym (agrees-own at h i (l .agrees) .0), sym (own-beneath at i r h (l .agrees))) fits) in
+      let off = off-all at (absorbs tree) (r .entries) i (l .agrees) (λ k from to. l .under (at k .node) (none k from (omega (arith, subtree-after at h i (l .agrees))))) in
       own-errors at i r h (l .agrees) ∙ fits-clean input tree (l .sound) lent (l .offset) run off
 
 -- A successful call whose description means this tree.

@@ -1,6 +1,5 @@
 -- What is found of an entry of a table that has a reading's entries, and how it is found: at the reading's own entry, in a child, in one of two.
 use Prim.Native.Nat.{ℕ, _+_, _≤_, _<_}
-use mathlib.Core.Bool.{false}
 use mathlib.Core.List.{List, _++_}
 use mathlib.Core.Option.{Option, none, some}
 use mathlib.Core.Path.{_≡_, refl, subst}
@@ -9,7 +8,6 @@ use lib.Dec.{eqb}
 use lib.IntN.{ℤ}
 use lib.ListN.{length}
 use borrow.Author.Tests.{eqb-true, eqb-false}
-use Rattle.description.specs.Check.{isIn}
 use Rattle.description.specs.Trees.{Tree}
 use Rattle.description.proofs.Choice.{by-test}
 use Rattle.rules.specs.Entries.{Entry, Reading}
@@ -81,7 +79,7 @@ module _ (input : List ℕ) (at : ℕ → Entry) (j : ℕ) where
       }
 
   -- Two children, the one after the other.
-  pub two-located : (root a b : Tree) → ((n : ℕ) → isIn n (absorbs root) ≡ false → isIn n (absorbs a ++ absorbs b) ≡ false)
+  pub two-located : (root a b : Tree) → Fewer (absorbs root) (absorbs a ++ absorbs b)
       → (lent more : List ℤ) (o p : ℕ) → Locates a lent o → Locates b more p
       → Finds at j (Located input root at j) (read input a lent o .entries ++ read input b more p .entries)
       (turns at j 2 (placeIn at j a lent) (placeIn at j b more))

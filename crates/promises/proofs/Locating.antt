@@ -22,12 +22,12 @@ use Rattle.rules.proofs.Heads.{nodeOf, read-headed}
 use Rattle.promises.specs.Places.{Place, turns, placeIn, absorbs}
 use Rattle.promises.specs.Table.{after}
 use Rattle.promises.proofs.Absorbing.{fewer-first, fewer-second}
-use Rattle.promises.proofs.Agreeing.{Agrees, agrees-first}
+use Rattle.promises.proofs.Agreeing.{agrees-first, agrees-own, subtree-after}
 use Rattle.promises.proofs.Located.{NoMoreAbsorbs, Located, Locates, Beneath}
 use Rattle.promises.proofs.Located.{here-located, alone-located, child-located, two-located}
 use Rattle.promises.proofs.Numbers.{numbered, lent-number}
 use Rattle.promises.proofs.Sound.{Sound}
-use Rattle.promises.proofs.Turning.{subtree-after, rounds-by-turns}
+use Rattle.promises.proofs.Turning.{rounds-by-turns}
 
 module _ (input : List ℕ) (at : ℕ → Entry) (j : ℕ) where
   -- what is shown of a reading of a tree, for this input, table and entry
@@ -61,7 +61,7 @@ module _ (input : List ℕ) (at : ℕ → Entry) (j : ℕ) where
         let h = read-headed input a lent o in
         let lend = cond (eqb (r .code) fail) (pos 0) (r .number) in
         let seconds = read input b (lend ∷ lent) (r .end) .entries in
-        let own : at (suc i) ≡ h .own = subst (Agrees at (suc i)) (h .entries) (agrees-first at (r .entries) seconds (suc i) (x .1)) .0 in
+        let own : at (suc i) ≡ h .own = agrees-own at h (suc i) (agrees-first at (r .entries) seconds (suc i) (x .1)) .0 in
         let same : lend ≡ recorded a (at (suc i)) =
         lent-number input a r (numbered input a (sound .0) (sound .1) lent o) (h .own) (h .number) ∙ sym (ap (recorded a) own) in
         subst (λ (y : ℤ). Located input (bind n a b) at j (turns at j 2 (placeIn at j a lent) (placeIn at j b (y ∷ lent)) (suc i))) same

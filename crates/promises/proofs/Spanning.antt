@@ -1,7 +1,7 @@
 -- Spans and sizes in the tables of a successful call are as promised.
 use Prim.Native.Nat.{ℕ, _<_}
-use mathlib.Core.List.{List, [], _∷_}
-use mathlib.Core.Path.{_≡_, sym, ap, subst, _∙_}
+use mathlib.Core.List.{List, []}
+use mathlib.Core.Path.{_≡_, sym, ap, subst}
 use native.Mathlib.Nat.{le-trans}
 use native.Mathlib.Omega.{arith}
 use lib.ListN.{length}
@@ -14,7 +14,7 @@ use Rattle.rules.proofs.Heads.{read-headed}
 use Rattle.rules.proofs.Spans.{read-within}
 use Rattle.promises.specs.Spans.{Spans}
 use Rattle.promises.specs.Table.{entryAt, after}
-use Rattle.promises.proofs.Agreeing.{Agrees}
+use Rattle.promises.proofs.Agreeing.{Agrees, subtree-after}
 use Rattle.promises.proofs.NestedReadings.{read-nested}
 use Rattle.promises.proofs.Parents.{child, parent-of, same-parent}
 use Rattle.promises.proofs.Subtrees.{Subtrees, Whole, subtrees, first, each-whole}
@@ -26,15 +26,12 @@ module _ (at : ℕ → Entry) (input : List ℕ) (t : Tree) (agrees : Agrees at 
   abbrev count : ℕ
   count = length (read input t [] 0 .entries)
 
-  root-size : at 0 .size ≡ count
-  root-size =
-      let h = read-headed input t [] 0 in
-      let here : Agrees at 0 (h .own ∷ h .beneath) = subst (Agrees at 0) (h .entries) agrees in
-      ap (λ (e : Entry). e .size) (here .0) ∙ h .size ∙ sym (ap length (h .entries))
-
   root-after : after at 0 ≡ count
+  root-after = omega (arith, subtree-after at (read-headed input t [] 0) 0 agrees)
+
+  root-size : at 0 .size ≡ count
   unfolding after
-  root-after = omega (arith, root-size)
+  root-size = omega (arith, root-after)
 
   -- the whole table is the root's subtree
   all : Subtrees at 0 (read input t [] 0 .end) 0 count

@@ -3,7 +3,7 @@ use Prim.Native.Nat.{ℕ, zero, suc, _+_, _≤_, _<_}
 use mathlib.Core.Bool.{Bool, _||_}
 use mathlib.Core.List.{List, [], _++_, append-nil}
 use mathlib.Core.Option.{Option}
-use mathlib.Core.Path.{_≡_, sym, ap, subst, _∙_}
+use mathlib.Core.Path.{_≡_, sym, ap, subst}
 use native.Mathlib.Omega.{arith}
 use lib.Dec.{eqb, ltb}
 use lib.ListN.{length, length-append}
@@ -15,15 +15,7 @@ use Rattle.rules.proofs.Heads.{Headed}
 use Rattle.rules.proofs.Rounds.{rounds-stop, rounds-next, rounds-empty, rounds-first}
 use Rattle.promises.specs.Places.{Place, turns}
 use Rattle.promises.specs.Table.{after}
-use Rattle.promises.proofs.Agreeing.{Agrees, agrees-first, agrees-second}
-
--- The entry after a subtree is the one after all of its reading's entries.
-pub subtree-after : (at : ℕ → Entry) {n o : ℕ} {r : Reading} → Headed n o r → (k : ℕ) → Agrees at k (r .entries)
-    → after at k ≡ k + length (r .entries)
-unfolding after
-subtree-after at h k a =
-    let own : at k ≡ h .own = subst (Agrees at k) (h .entries) a .0 in
-    ap (λ (e : Entry). k + e .size) own ∙ ap (λ (s : ℕ). k + s) (h .size) ∙ sym (ap (λ (es : List Entry). k + length es) (h .entries))
+use Rattle.promises.proofs.Agreeing.{Agrees, agrees-first, agrees-second, subtree-after}
 
 module _ (at : ℕ → Entry) (j : ℕ) (P : Option Place → Type 0) where
   -- where the table has these entries and entry j is among them, what is found from their first one on is as asked

@@ -9,24 +9,6 @@
 /* One byte more than a description may have: a longer file is refused as this many bytes are. */
 #define MOST_READ 1025
 
-static const char *reason(enum rippleshrug_refusal refusal) {
-    switch (refusal) {
-    case RIPPLESHRUG_ACCEPTED: return "accepted";
-    case RIPPLESHRUG_EMPTY_OR_TOO_LONG: return "description empty or over 1,024 bytes";
-    case RIPPLESHRUG_UNKNOWN_KIND: return "unknown kind";
-    case RIPPLESHRUG_BODY_CUT_SHORT: return "body cut short";
-    case RIPPLESHRUG_TOO_MANY_NODES: return "a 65th node begins";
-    case RIPPLESHRUG_NOT_LISTED: return "width, relation, operator or operand not listed";
-    case RIPPLESHRUG_CHILD_NOT_SMALLER: return "child not smaller than the node";
-    case RIPPLESHRUG_CHILD_NAMED_BEFORE: return "child named before, also twice in one node";
-    case RIPPLESHRUG_NUMBER_NODE_WANTED: return "a number node is wanted";
-    case RIPPLESHRUG_NEVER_NAMED: return "a node never named";
-    case RIPPLESHRUG_NO_ENCLOSING_BIND: return "operand names no enclosing bind";
-    case RIPPLESHRUG_TOO_MANY_BINDS: return "more than 31 binds around one node";
-    }
-    return "a refusal that this program does not know";
-}
-
 int main(int argc, char **argv) {
     uint8_t desc[MOST_READ];
     size_t length;
@@ -55,6 +37,7 @@ int main(int argc, char **argv) {
         puts("accepted");
         return 0;
     }
-    printf("refused %u, node %u: %s\n", (unsigned)rippleshrug_refusal_of(answer), rippleshrug_node_of(answer), reason(rippleshrug_refusal_of(answer)));
+    printf("refused %u, node %u: %s\n", (unsigned)rippleshrug_refusal_of(answer), rippleshrug_node_of(answer),
+        rippleshrug_reason(rippleshrug_refusal_of(answer)));
     return 1;
 }

@@ -1,7 +1,9 @@
-/* Rippleshrug's check of record descriptions, for hosts in C (from C99 on) and C++.
+/* Rippleshrug's check of record descriptions and its reader, for hosts in C (from C99 on) and C++.
  *
- * Link with libhost.a, which `rt staticlib host` writes to target/staticlib/. The check is proved to give document 01's answer for every
- * description. It allocates nothing, keeps nothing between calls, and may be called from several threads at once. */
+ * Link with libhost.a, which `rt staticlib host` writes to target/staticlib/. Both are proved to give document 01's answer for every description,
+ * input and pair of tables. They allocate nothing, keep nothing between calls, own nothing that they are handed, and may be called from several
+ * threads at once where no two of them are lent the same table. A thread that reads wants 64 KiB of stack: the deepest description takes a third
+ * of it. */
 #ifndef RIPPLESHRUG_H
 #define RIPPLESHRUG_H
 
@@ -12,8 +14,8 @@
 extern "C" {
 #endif
 
-/* Why a description is refused, by document 01's number. Of several reasons the first in this order is given: 1; then, node by node from the
- * front, 4, 2, 3, 5, 6, 7, 8; then 9, 10, 11. "That node" is the one at which the reason was found; nodes are numbered from 0. */
+/* Why a description or a call is refused, by document 01's number. Of several reasons the first in this order is given: 1; then, node by node from
+ * the front, 4, 2, 3, 5, 6, 7, 8; then 9 to 13. "That node" is the one at which the reason was found; nodes are numbered from 0. */
 enum rippleshrug_refusal {
     /* The description is accepted. Node 0. */
     RIPPLESHRUG_ACCEPTED = 0,
@@ -38,8 +40,33 @@ enum rippleshrug_refusal {
     /* An operand names a bind that is not around it. The root. */
     RIPPLESHRUG_NO_ENCLOSING_BIND = 10,
     /* More than 31 binds around one node. The root. */
-    RIPPLESHRUG_TOO_MANY_BINDS = 11
+    RIPPLESHRUG_TOO_MANY_BINDS = 11,
+    /* Of the reader alone, after 1 to 11: the input has more than 8,191 bytes. Node 0. */
+    RIPPLESHRUG_INPUT_TOO_LONG = 12,
+    /* Of the reader alone, last: the entries outnumber the room of the tables. Node 0. */
+    RIPPLESHRUG_NO_ROOM = 13
 };
+
+/* The same in words, for a message. */
+static inline const char *rippleshrug_reason(enum rippleshrug_refusal refusal) {
+    switch (refusal) {
+    case RIPPLESHRUG_ACCEPTED: return "accepted";
+    case RIPPLESHRUG_EMPTY_OR_TOO_LONG: return "description empty or over 1,024 bytes";
+    case RIPPLESHRUG_UNKNOWN_KIND: return "unknown kind";
+    case RIPPLESHRUG_BODY_CUT_SHORT: return "body cut short";
+    case RIPPLESHRUG_TOO_MANY_NODES: return "a 65th node begins";
+    case RIPPLESHRUG_NOT_LISTED: return "width, relation, operator or operand not listed";
+    case RIPPLESHRUG_CHILD_NOT_SMALLER: return "child not smaller than the node";
+    case RIPPLESHRUG_CHILD_NAMED_BEFORE: return "child named before, also twice in one node";
+    case RIPPLESHRUG_NUMBER_NODE_WANTED: return "a number node is wanted";
+    case RIPPLESHRUG_NEVER_NAMED: return "a node never named";
+    case RIPPLESHRUG_NO_ENCLOSING_BIND: return "operand names no enclosing bind";
+    case RIPPLESHRUG_TOO_MANY_BINDS: return "more than 31 binds around one node";
+    case RIPPLESHRUG_INPUT_TOO_LONG: return "input over 8,191 bytes";
+    case RIPPLESHRUG_NO_ROOM: return "entries outnumber the room of the tables";
+    }
+    return "a refusal that is not known";
+}
 
 /* The check as it is proved: the refusal plus 256 times the node, 0 where it accepts. `desc` points to `length` bytes that nothing writes
  * meanwhile, and is not null even where `length` is 0. */
@@ -58,6 +85,68 @@ static inline enum rippleshrug_refusal rippleshrug_refusal_of(uint32_t answer) {
 
 static inline unsigned rippleshrug_node_of(uint32_t answer) {
     return (unsigned)(answer / 256);
+}
+
+/* What a call of the reader answers. A success has refusal 0, which is RIPPLESHRUG_ACCEPTED, and node 0; a refusal has count 0 and end 0. */
+struct rippleshrug_answer {
+    uint32_t refusal; /* an enum rippleshrug_refusal */
+    uint32_t node;    /* the node that is given with the refusal */
+    uint32_t count;   /* how many entries there are */
+    uint32_t end;     /* the bit at which the root ended */
+};
+
+/* The reader as it is proved. `desc`, `input`, `values` and `descriptors` point to as many bytes or words as the length after each says, and none is
+ * null, even where its length is 0. Nothing writes the first two meanwhile; nothing else reads or writes the two tables, which do not overlap.
+ * Whatever stood in the tables, every word of both is written: the entries, and 0 after them; or 0 throughout, where the call is refused.
+ *
+ * An entry takes four words of each table. There is room for as many entries as the shorter table has words, divided by 4 and rounded down, and
+ * never for more than 65,535; no call needs a table that is longer than 262,140 words. */
+struct rippleshrug_answer rippleshrug_read_slices(const uint8_t *desc, size_t desc_length, const uint8_t *input, size_t input_length,
+    uint32_t *values, size_t values_length, uint32_t *descriptors, size_t descriptors_length);
+
+/* The same, which takes a null pointer for nothing: the empty description, the empty input, a table of no words, whatever the length beside it. */
+static inline struct rippleshrug_answer rippleshrug_read(const uint8_t *desc, size_t desc_length, const uint8_t *input, size_t input_length,
+    uint32_t *values, size_t values_length, uint32_t *descriptors, size_t descriptors_length) {
+    static const uint8_t none = 0;
+    uint32_t no_values = 0, no_descriptors = 0;
+    return rippleshrug_read_slices(desc == NULL ? &none : desc, desc == NULL ? 0 : desc_length, input == NULL ? &none : input,
+        input == NULL ? 0 : input_length, values == NULL ? &no_values : values, values == NULL ? 0 : values_length,
+        descriptors == NULL ? &no_descriptors : descriptors, descriptors == NULL ? 0 : descriptors_length);
+}
+
+/* An entry's code. */
+enum rippleshrug_code {
+    RIPPLESHRUG_OK = 0,
+    /* It has errors, or something beneath it has. */
+    RIPPLESHRUG_ERR = 1,
+    /* What was wanted was not there at all. */
+    RIPPLESHRUG_FAIL = 2
+};
+
+/* An entry, from the four words that it has in each table. Entries stand parent first, and the entries beneath entry i are the size - 1 after it. */
+struct rippleshrug_entry {
+    uint32_t node;   /* the node of the description that was read */
+    uint32_t number; /* its number, the low 32 bits; 0 for a node that has none */
+    uint32_t detail; /* either: 1 or 2, the part that was taken; sequence: its elements; scan: the bits that it skipped; else 0 */
+    uint32_t size;   /* how many entries are in its subtree, itself included */
+    uint32_t begin;  /* the bit at which it begins */
+    uint32_t end;    /* the bit after its last */
+    uint32_t code;   /* an enum rippleshrug_code */
+    uint32_t errors; /* how many of its parts had errors; 0 means that it and all beneath it fit the description */
+};
+
+/* Entry i of the tables that a call with more than i entries left. */
+static inline struct rippleshrug_entry rippleshrug_entry_at(const uint32_t *values, const uint32_t *descriptors, size_t i) {
+    struct rippleshrug_entry entry;
+    entry.node = values[4 * i];
+    entry.number = values[4 * i + 1];
+    entry.detail = values[4 * i + 2];
+    entry.size = values[4 * i + 3];
+    entry.begin = descriptors[4 * i];
+    entry.end = descriptors[4 * i + 1];
+    entry.code = descriptors[4 * i + 2];
+    entry.errors = descriptors[4 * i + 3];
+    return entry;
 }
 
 #ifdef __cplusplus

@@ -2,22 +2,21 @@
  * filled with a pattern, to measure the need, and on one that has no more than a host should give. */
 #define _XOPEN_SOURCE 700
 
+#include "rippleshrug.h"
+
 #include <pthread.h>
-#include <stdint.h>
 #include <stdio.h>
 #include <stdlib.h>
 #include <string.h>
 
-uint64_t rippleshrug_read_slices(const uint8_t *desc, size_t desc_length, const uint8_t *input, size_t input_length, uint32_t *values,
-                                 size_t value_words, uint32_t *descriptors, size_t descriptor_words);
-
 enum { LIMIT = 65536, WIDE = 1 << 20, MOST_NODES = 64, MOST_BYTES = 1024, MOST_INPUT = 8191, WORDS = 4096, PATTERN = 0xA5 };
 
-/* A description, node by node from the front. */
+/* A description, node by node from the front, and what the last reading with it answered. */
 struct description {
     uint8_t bytes[MOST_BYTES];
     size_t length;
     unsigned nodes;
+    struct rippleshrug_answer said;
 };
 
 static const uint8_t input[MOST_INPUT];
@@ -104,55 +103,55 @@ static void describe(struct description *d, const struct level *l) {
 }
 
 static void *read_it(void *argument) {
-    const struct description *d = argument;
-    uint64_t said = rippleshrug_read_slices(d->bytes, d->length, input, sizeof input, values, WORDS, descriptors, WORDS);
-    return (void *)(uintptr_t)said;
+    struct description *d = argument;
+    d->said = rippleshrug_read_slices(d->bytes, d->length, input, sizeof input, values, WORDS, descriptors, WORDS);
+    return NULL;
 }
 
 static void *read_nothing(void *argument) { return argument; }
 
-static void *run(pthread_attr_t *attributes, void *start(void *), void *argument) {
+static void run(pthread_attr_t *attributes, void *start(void *), void *argument) {
     pthread_t thread;
-    void *result;
     if (pthread_create(&thread, attributes, start, argument) != 0) die("no thread can be made");
-    if (pthread_join(thread, &result) != 0) die("a thread cannot be joined");
+    if (pthread_join(thread, NULL) != 0) die("a thread cannot be joined");
     if (pthread_attr_destroy(attributes) != 0) die("a thread's attributes cannot be given back");
-    return result;
 }
 
 /* Runs on a stack that is filled with a pattern, and counts the bytes of it that were written. */
-static void *measured(void *start(void *), void *argument, size_t *used) {
+static size_t measured(void *start(void *), void *argument) {
     pthread_attr_t attributes;
-    void *stack, *result;
+    void *stack;
+    size_t used;
     const uint8_t *low;
     if (posix_memalign(&stack, 4096, WIDE) != 0) die("there is no memory for a stack");
     memset(stack, PATTERN, WIDE);
     if (pthread_attr_init(&attributes) != 0 || pthread_attr_setstack(&attributes, stack, WIDE) != 0) die("a stack cannot be set");
-    result = run(&attributes, start, argument);
+    run(&attributes, start, argument);
     for (low = stack; *low == PATTERN; low++) continue;
-    *used = (size_t)((const uint8_t *)stack + WIDE - low);
+    used = (size_t)((const uint8_t *)stack + WIDE - low);
     free(stack);
-    return result;
+    return used;
 }
 
 /* Runs on a stack of no more than LIMIT bytes, below which lies a page that cannot be written. */
-static void *limited(void *start(void *), void *argument) {
+static void limited(void *start(void *), void *argument) {
     pthread_attr_t attributes;
     if (pthread_attr_init(&attributes) != 0 || pthread_attr_setstacksize(&attributes, LIMIT) != 0) die("a stack's size cannot be set");
-    return run(&attributes, start, argument);
+    run(&attributes, start, argument);
 }
 
 int main(void) {
-    size_t before, used, most = 0;
-    measured(read_nothing, NULL, &before);
+    size_t before = measured(read_nothing, NULL), used, most = 0;
     for (size_t i = 0; i < COUNT; i++) {
+        struct rippleshrug_answer said;
         describe(&all[i], &levels[i]);
-        uintptr_t wide = (uintptr_t)measured(read_it, &all[i], &used);
-        uintptr_t narrow = (uintptr_t)limited(read_it, &all[i]);
-        printf("stack: %-22s %2u nodes %6zu bytes\n", levels[i].name, all[i].nodes, used - before);
-        if (wide % 65536 != 0) die("that reading was refused");
-        if (wide != narrow) die("that reading differs on a small stack");
-        if (used - before > most) most = used - before;
+        used = measured(read_it, &all[i]) - before;
+        said = all[i].said;
+        printf("stack: %-22s %2u nodes %6zu bytes\n", levels[i].name, all[i].nodes, used);
+        if (said.refusal != 0) die("that reading was refused");
+        limited(read_it, &all[i]);
+        if (all[i].said.refusal != 0 || all[i].said.count != said.count || all[i].said.end != said.end) die("that reading differs on a small stack");
+        if (used > most) most = used;
     }
     printf("stack: the most is %zu bytes; each was read on a stack of %d\n", most, LIMIT);
     return 0;

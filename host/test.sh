@@ -1,6 +1,6 @@
 #!/usr/bin/env bash
-# Builds the static library and the C host, runs both over descriptions whose verdicts document 01 gives, and compares. Then measures how much
-# stack the reader takes.
+# Builds the static library and the C hosts of the check and of the reader, runs them over descriptions and records whose answers are known, and
+# compares; the same with the compiler's sanitizers at the library's boundary. Then measures how much stack the reader takes.
 set -euo pipefail
 cd "$(dirname "${BASH_SOURCE[0]}")/.."
 
@@ -59,6 +59,44 @@ run_program() {
     echo "host: the program's words are as expected for $(ls "$out/cases" | wc -l) files"
 }
 
+# The reader, called by its header from C99 and from C++.
+run_reader() {
+    gcc -std=c99 "${strict[@]}" host/read_test.c "$library" -o "$out/read_test" || fail "host/read_test.c is no C99"
+    g++ -std=c++11 "${strict[@]}" -x c++ host/read_test.c -x none "$library" -o "$out/read_test++" || fail "host/read_test.c is no C++"
+    "$out/read_test" || fail "the reader, called from C, gave a wrong answer"
+    "$out/read_test++" >/dev/null || fail "the reader, called from C++, gave a wrong answer"
+}
+
+# The examples as indented text: what the program prints, and its status.
+run_entries() {
+    local example status wanted
+    gcc -std=c99 "${strict[@]}" host/entries.c "$library" -o "$out/entries" || fail "host/entries.c is no C99"
+    for example in examples/*/; do
+        bash listing/bytes.sh "$example/description.hex" >"$out/description"
+        bash listing/bytes.sh "$example/input.hex" >"$out/input"
+        status=0 wanted=0
+        "$out/entries" "$out/description" "$out/input" >"$out/printed" || status=$?
+        diff -u "$example/entries" "$out/printed" >&2 || fail "of $example the program prints something else"
+        sed -n 2p "$example/entries" | grep -q ': ok$' || wanted=1
+        [ "$status" = "$wanted" ] || fail "of $example the program's status is $status, and not $wanted"
+    done
+    printf '\2\41' >"$out/description"
+    status=0
+    "$out/entries" "$out/description" "$out/input" >"$out/printed" || status=$?
+    [ "$status $(cat "$out/printed")" = "2 refused 5, node 0: ${reasons[5]}" ] || fail "of a width of 33 the program says '$(cat "$out/printed")'"
+    echo "host: the examples are printed as indented text as they should be: $(ls examples | grep -vc README)"
+}
+
+# Every block is of just the size that is lent, so that a byte read or written beside it is seen.
+run_sanitized() {
+    local sanitized=(-std=c99 -g -O1 -fsanitize=address,undefined -fno-sanitize-recover=all)
+    gcc "${sanitized[@]}" host/test.c "$library" -o "$out/test_sanitized" || fail "host/test.c cannot be built with sanitizers"
+    gcc "${sanitized[@]}" host/read_test.c "$library" -o "$out/read_test_sanitized" || fail "host/read_test.c cannot be built with sanitizers"
+    "$out/test_sanitized" >/dev/null || fail "the check, called from C with sanitizers, is not as it should be"
+    "$out/read_test_sanitized" >/dev/null || fail "the reader, called from C with sanitizers, is not as it should be"
+    echo "host: with address and undefined behaviour sanitizers nothing is found"
+}
+
 # The deepest descriptions, each on a stack of the size that docs/DECISIONS.md tells a host to give.
 measure_stack() {
     gcc -std=c99 "${strict[@]}" host/stack.c "$library" -lpthread -o "$out/stack" || fail "host/stack.c is no C99"
@@ -72,4 +110,7 @@ build_library
 compile_header
 run_tests
 run_program
+run_reader
+run_entries
+run_sanitized
 measure_stack

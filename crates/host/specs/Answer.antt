@@ -5,17 +5,18 @@ use mathlib.Core.Path.{_≡_}
 use Rattle.description.specs.Check.{checked}
 use Rattle.description.specs.Refusals.{verdictNumber, verdictNode}
 use Rattle.rules.specs.Outcome.{Stated, Outcome, stated}
+use Rattle.host.specs.declared.Numbers.{Numbers}
 
 -- "The check alone gives 1 to 11 with the node, or 0 and node 0 where it accepts": the refusal plus 256 times the node.
 unfoldable pub answer : List ℕ → ℕ
 answer desc = verdictNumber (checked desc) + 256 * verdictNode (checked desc)
 
--- 01's four numbers of a call as one. A refusal and a node take a byte each, and a count takes two, since it is never above 65,535.
-unfoldable pub packed : Stated → ℕ
-packed s = s .refusal + 256 * s .node + 65536 * s .count + 4294967296 * s .end
+-- 01's four numbers of a call, as C has them.
+unfoldable pub numbersOf : Stated → Numbers
+numbersOf s = record { refusal = s .refusal; node = s .node; count = s .count; end = s .end }
 
--- What a host has of a call whose outcome is o: its four numbers as one, and both tables afterwards.
-pub record Got (o : Outcome) (r : ℕ) (v d : List ℕ) : Type 0 where
-  pub numbers : r ≡ packed (stated (o .answer))
+-- What a host has of a call whose outcome is o: its four numbers, and both tables afterwards.
+pub record Got (o : Outcome) (r : Numbers) (v d : List ℕ) : Type 0 where
+  pub numbers : r ≡ numbersOf (stated (o .answer))
   pub values : v ≡ o .values
   pub descriptors : d ≡ o .descriptors

@@ -3,11 +3,10 @@ use description::Verdict;
 use description::refusals;
 use reader::Answer;
 ghost use mathlib.Core.Path.{_≡_};
-ghost use Prim.Native.Nat.{_≤_};
 ghost use lib.ListN.{length};
 ghost use Rattle.reader.specs.Answers.{statedBy};
 ghost use Rattle.rules.specs.Outcome.{outcome};
-ghost use Rattle.host.specs.Answer.{answer, packed, Got};
+ghost use Rattle.host.specs.Answer.{answer, numbersOf, Got};
 
 // The check of a description: the refusal plus 256 times the node, 0 where it accepts.
 #[no_mangle]
@@ -20,29 +19,56 @@ pub extern "C" fn rippleshrug_check_slice(desc: &[u8]) -> u32
     }
 }
 
-// A call of the reader: "refusal 0, node 0, count and end", or a refusal's, as one number; and both tables, whatever stood in them.
+// "refusal 0, node 0, count and end", or a refusal's: the four numbers of a call, laid out as C lays out a struct.
+#[repr(C)]
+pub struct Numbers {
+    pub refusal: u32,
+    pub node: u32,
+    pub count: u32,
+    pub end: u32,
+}
+
+// A call of the reader: its four numbers, and both tables, whatever stood in them.
 #[no_mangle]
 pub extern "C" fn rippleshrug_read_slices(
     desc: &[u8],
     input: &[u8],
     values: &mut [u32],
     descriptors: &mut [u32],
-) -> u64
+) -> Numbers
     ensures { λ r. ⌜ Got (outcome (length (now (values .entry))) (length (now (descriptors .entry))) (now (desc .entry)) (now (input .entry)))
         r (now (values .exit)) (now (descriptors .exit)) ⌝ }
 {
-    pack(reader::read(desc, input, values, descriptors))
+    in_numbers(reader::read(desc, input, values, descriptors))
 }
 
-// Refusal, node, count and end as one number, from the lowest bits up. No two of them meet: there is no room for a 65,536th entry.
-fn pack(answer: Answer) -> u64
-    requires { ⌜ statedBy answer .count ≤ 65535 ⌝ }
-    ensures { λ r. ⌜ r ≡ packed (statedBy answer) ⌝ }
+fn in_numbers(answer: Answer) -> Numbers
+    ensures { λ r. ⌜ r ≡ numbersOf (statedBy answer) ⌝ }
 {
     match answer {
-        Answer::Success { count, end } => 65536 * count as u64 + 4294967296 * end as u64,
-        Answer::BadDescription(r) => refusals::number(r) as u64 + 256 * refusals::node(r) as u64,
-        Answer::InputTooLong => 12,
-        Answer::NoRoom => 13,
+        Answer::Success { count, end } => Numbers {
+            refusal: 0,
+            node: 0,
+            count: count,
+            end: end,
+        },
+        Answer::BadDescription(r) => Numbers {
+            refusal: refusals::number(r) as u32,
+            node: refusals::node(r) as u32,
+            count: 0,
+            end: 0,
+        },
+        Answer::InputTooLong => Numbers {
+            refusal: 12,
+            node: 0,
+            count: 0,
+            end: 0,
+        },
+        Answer::NoRoom => Numbers {
+            refusal: 13,
+            node: 0,
+            count: 0,
+            end: 0,
+        },
     }
 }

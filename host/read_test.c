@@ -1,0 +1,114 @@
+/* Calls the reader as a host does: document 01's case A, refusals over tables that held other words, and null pointers for nothing. */
+#include "rippleshrug.h"
+
+#include <stdio.h>
+#include <stdlib.h>
+#include <string.h>
+
+static unsigned made;
+
+static void expect(int holds, const char *what) {
+    made++;
+    if (!holds) {
+        fprintf(stderr, "read_test: not so: %s\n", what);
+        exit(1);
+    }
+}
+
+#define EXPECT(holds) expect(holds, #holds)
+
+/* Tables in blocks of their own, of just so many words, so that a tool sees a word beside them that is read or written. */
+struct tables {
+    uint32_t *values, *descriptors;
+    size_t value_words, descriptor_words;
+};
+
+static struct tables lend(size_t value_words, size_t descriptor_words) {
+    struct tables t;
+    t.values = (uint32_t *)malloc(value_words * sizeof *t.values);
+    t.descriptors = (uint32_t *)malloc(descriptor_words * sizeof *t.descriptors);
+    if (t.values == NULL || t.descriptors == NULL) exit(2);
+    memset(t.values, 0xA5, value_words * sizeof *t.values);
+    memset(t.descriptors, 0x5A, descriptor_words * sizeof *t.descriptors);
+    t.value_words = value_words;
+    t.descriptor_words = descriptor_words;
+    return t;
+}
+
+static void take_back(struct tables t) {
+    free(t.values);
+    free(t.descriptors);
+}
+
+static int all_zero(struct tables t) {
+    size_t i;
+    for (i = 0; i < t.value_words; i++)
+        if (t.values[i] != 0) return 0;
+    for (i = 0; i < t.descriptor_words; i++)
+        if (t.descriptors[i] != 0) return 0;
+    return 1;
+}
+
+static const uint8_t counters[] = {0x02, 0x10, 0x02, 0x10, 0x0A, 0x10, 0x01, 0x01, 0, 0, 0, 0, 0x01, 0, 0, 0, 0x01, 0x05, 0x01, 0x02, 0x05, 0x00, 0x03};
+static const uint8_t turned[] = {0xFF, 0xFA, 0x00, 0x04};
+
+static struct rippleshrug_answer read_into(struct tables t, const uint8_t *desc, size_t desc_length, const uint8_t *input, size_t input_length) {
+    return rippleshrug_read(desc, desc_length, input, input_length, t.values, t.value_words, t.descriptors, t.descriptor_words);
+}
+
+static int answers(struct rippleshrug_answer a, uint32_t refusal, uint32_t node, uint32_t count, uint32_t end) {
+    return a.refusal == refusal && a.node == node && a.count == count && a.end == end;
+}
+
+static int refused(struct rippleshrug_answer answer, enum rippleshrug_refusal refusal, uint32_t node) {
+    return answers(answer, (uint32_t)refusal, node, 0, 0);
+}
+
+static void test_case_a(void) {
+    struct tables t = lend(22, 21);
+    struct rippleshrug_answer answer = read_into(t, counters, sizeof counters, turned, sizeof turned);
+    struct rippleshrug_entry root = rippleshrug_entry_at(t.values, t.descriptors, 0);
+    struct rippleshrug_entry use = rippleshrug_entry_at(t.values, t.descriptors, 4);
+    EXPECT(answers(answer, RIPPLESHRUG_ACCEPTED, 0, 5, 32));
+    EXPECT(root.node == 4 && root.size == 5 && root.begin == 0 && root.end == 32 && root.errors == 0);
+    EXPECT(use.node == 2 && use.number == 10 && use.detail == 0 && use.size == 1);
+    EXPECT(use.begin == 32 && use.end == 32 && use.code == RIPPLESHRUG_OK && use.errors == 0);
+    EXPECT(t.values[20] == 0 && t.values[21] == 0 && t.descriptors[20] == 0);
+    take_back(t);
+}
+
+static void test_refusals(void) {
+    static const uint8_t wide[] = {0x02, 0x21}, unnamed[] = {0x00, 0x00}, twice[] = {0x00, 0x04, 0x00, 0x00};
+    static uint8_t much[8192];
+    struct tables t = lend(20, 20), small = lend(20, 19);
+    EXPECT(refused(read_into(t, wide, sizeof wide, turned, sizeof turned), RIPPLESHRUG_NOT_LISTED, 0) && all_zero(t));
+    EXPECT(refused(read_into(t, unnamed, sizeof unnamed, turned, sizeof turned), RIPPLESHRUG_NEVER_NAMED, 0) && all_zero(t));
+    EXPECT(refused(read_into(t, twice, sizeof twice, turned, sizeof turned), RIPPLESHRUG_CHILD_NAMED_BEFORE, 1) && all_zero(t));
+    EXPECT(refused(read_into(t, counters, sizeof counters, much, 8192), RIPPLESHRUG_INPUT_TOO_LONG, 0) && all_zero(t));
+    EXPECT(answers(read_into(t, counters, sizeof counters, much, 8191), RIPPLESHRUG_ACCEPTED, 0, 5, 32));
+    EXPECT(refused(read_into(small, counters, sizeof counters, turned, sizeof turned), RIPPLESHRUG_NO_ROOM, 0) && all_zero(small));
+    take_back(t);
+    take_back(small);
+}
+
+/* Null is nothing, whatever length stands beside it. */
+static void test_nothing(void) {
+    struct tables t = lend(20, 20);
+    EXPECT(refused(read_into(t, NULL, 9, turned, sizeof turned), RIPPLESHRUG_EMPTY_OR_TOO_LONG, 0) && all_zero(t));
+    EXPECT(refused(read_into(t, counters, 0, turned, sizeof turned), RIPPLESHRUG_EMPTY_OR_TOO_LONG, 0));
+    EXPECT(answers(read_into(t, counters, sizeof counters, NULL, 9), RIPPLESHRUG_ACCEPTED, 0, 5, 0));
+    EXPECT(answers(read_into(t, counters, sizeof counters, turned, 0), RIPPLESHRUG_ACCEPTED, 0, 5, 0));
+    EXPECT(refused(rippleshrug_read(counters, sizeof counters, turned, sizeof turned, NULL, 20, t.descriptors, 20), RIPPLESHRUG_NO_ROOM, 0));
+    EXPECT(refused(rippleshrug_read(counters, sizeof counters, turned, sizeof turned, t.values, 20, NULL, 20), RIPPLESHRUG_NO_ROOM, 0));
+    EXPECT(refused(rippleshrug_read(counters, sizeof counters, turned, sizeof turned, t.values, 0, t.descriptors, 0), RIPPLESHRUG_NO_ROOM, 0));
+    EXPECT(refused(rippleshrug_read(NULL, 0, NULL, 0, NULL, 0, NULL, 0), RIPPLESHRUG_EMPTY_OR_TOO_LONG, 0));
+    take_back(t);
+}
+
+int main(void) {
+    test_case_a();
+    test_refusals();
+    test_nothing();
+    printf("host: the reader, called by its header, is right in %u points\n", made);
+    return 0;
+}

@@ -1,0 +1,106 @@
+//! Compares the compiled reader with an independent one, written from document 01, on cases from a seed.
+//!
+//! `tests [CASES [SEED [partial]]]`: 200,000 cases and seed 1, if nothing else is said. It prints what was reached, and fails where a case differs or
+//! where something was never reached; a partial run, of few cases, need not reach all. Then it plants faults in copies of the reader's answers, and
+//! fails where one is not found.
+
+mod compare;
+mod compiled;
+mod description;
+mod faults;
+mod generate;
+mod library;
+mod random;
+mod reached;
+mod reading;
+mod shrink;
+
+use generate::Case;
+use random::Random;
+use reached::Reached;
+use std::process::ExitCode;
+use std::time::{Duration, Instant};
+
+const CASES: u64 = 200_000;
+const SEED: u64 = 1;
+
+fn main() -> ExitCode {
+    let args: Vec<String> = std::env::args().skip(1).collect();
+    let number = |at: usize, otherwise: u64| args.get(at).map_or(Some(otherwise), |word| word.parse().ok());
+    let partial = args.get(2).is_some_and(|word| word == "partial");
+    let (Some(cases), Some(seed), true) = (number(0, CASES), number(1, SEED), args.len() <= 2 || args.len() == 3 && partial) else {
+        eprintln!("use: tests [CASES [SEED [partial]]], both whole numbers");
+        return ExitCode::from(2);
+    };
+    match run(cases, seed, partial) {
+        Ok(()) => ExitCode::SUCCESS,
+        Err(words) => {
+            eprintln!("tests: {words}");
+            ExitCode::FAILURE
+        }
+    }
+}
+
+fn run(cases: u64, seed: u64, partial: bool) -> Result<(), String> {
+    let mut random = Random::new(seed);
+    let mut reached = Reached::new();
+    let (mut compared, mut skipped, mut progress) = (0, 0, Progress::new(cases));
+    let drawn = std::iter::repeat_with(|| generate::case(&mut random));
+    for case in generate::cut_everywhere().into_iter().chain(drawn) {
+        if compared == cases {
+            break;
+        }
+        progress.show(compared);
+        let Ok(expected) = compare::expected(&case) else {
+            skipped += 1;
+            continue;
+        };
+        if compare::difference(&case, &expected, &compare::compiled).is_some() {
+            return Err(told(&case, &compare::compiled));
+        }
+        reached.case(&case, &expected);
+        compared += 1;
+    }
+    println!("{compared} cases from seed {seed} are equal in every word; {skipped} more would have taken too long");
+    println!("reached, so many times:");
+    reached.print();
+    let missing = reached.missing();
+    if !partial && !missing.is_empty() {
+        return Err(format!("never reached, so that nothing is shown of it: {}", missing.join("; ")));
+    }
+    faults::find_all(&mut random)
+}
+
+/// A failing case, made small, in words and as input of the listing program.
+fn told(case: &Case, reader: compare::Reader) -> String {
+    let differs = |case: &Case| compare::expected(case).ok().and_then(|expected| compare::difference(case, &expected, reader));
+    let small = shrink::shrink(case, &|case| differs(case).is_some());
+    let words = differs(&small).expect("what was shrunk still differs");
+    let hex = |bytes: &[u8]| bytes.iter().map(|byte| format!("{byte:02X}")).collect::<Vec<_>>().join(" ");
+    format!(
+        "{words}\n  tables of {} and {} words; as input of the listing program, in hex (bash listing/bytes.sh FILE | target/bin/listing):\n  {}",
+        small.value_words,
+        small.descriptor_words,
+        hex(&[&(small.desc.len() as u16).to_be_bytes(), &small.desc[..], &small.input].concat())
+    )
+}
+
+/// A line on standard error every five seconds.
+struct Progress {
+    cases: u64,
+    begun: Instant,
+    shown: Instant,
+}
+
+impl Progress {
+    fn new(cases: u64) -> Progress {
+        Progress { cases, begun: Instant::now(), shown: Instant::now() }
+    }
+
+    fn show(&mut self, done: u64) {
+        if self.shown.elapsed() >= Duration::from_secs(5) {
+            self.shown = Instant::now();
+            eprintln!("{done} of {} cases after {} s", self.cases, self.begun.elapsed().as_secs());
+        }
+    }
+}

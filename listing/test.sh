@@ -57,6 +57,19 @@ test_lengths() {
     says $'ok 1 0\n0 0 0 0 0 0 0 1' 00 01 00
 }
 
+# The smallest description for each refusal of docs/DESCRIBING.md that standard input can provoke, over no input.
+test_refusals() {
+    says 'refused 2 0' 00 01 0D
+    says 'refused 3 0' 00 01 02
+    says 'refused 4 64' 00 41 "$(printf '00 %.0s' {0..64})"
+    says 'refused 5 0' 00 02 02 00
+    says 'refused 6 0' 00 02 0B 00
+    says 'refused 7 1' 00 04 00 04 00 00
+    says 'refused 8 2' 00 05 00 00 05 00 01
+    says 'refused 9 0' 00 02 00 00
+    says 'refused 10 0' 00 0D 0A 01 00 01 00 00 00 00 00 00 00 00 00
+}
+
 # Case A, which stands beside the program's source, from pieces of one byte.
 case_a=crates/listing/stdin
 printed_a=crates/listing/stdout
@@ -107,6 +120,7 @@ test_stack() {
 run_examples
 test_bytes
 test_lengths
+test_refusals
 test_pieces
 test_long
 test_faults

@@ -3,18 +3,13 @@
 use std::hint::black_box;
 use std::time::Instant;
 
-#[link(name = "host", kind = "static")]
-extern "C" {
-    fn rippleshrug_check_slice(desc: *const u8, length: usize) -> u32;
-}
-
-fn proved(desc: &[u8]) -> u32 {
-    // SAFETY: the pointer and the length are those of one slice, which the check reads and does not keep.
-    unsafe { rippleshrug_check_slice(desc.as_ptr(), desc.len()) }
-}
-
+#[allow(dead_code)] // the reader, which is timed by itself
+#[path = "../tests/src/library.rs"]
+mod library;
 #[path = "plain/description.rs"]
 mod plain;
+
+use library::check as proved;
 
 /// The check in Rust: the refusal plus 256 times the node, 0 where it accepts.
 fn in_rust(desc: &[u8]) -> u32 {
@@ -54,10 +49,11 @@ fn time(check: fn(&[u8]) -> u32, desc: &[u8]) -> f64 {
 }
 
 fn main() {
-    println!("{:>24}  {:>6}  {:>8}  {:>8}", "description", "answer", "proved", "Rust");
+    println!("{:>24}  {:>6}  {:>8}  {:>8}  {:>5}", "description", "answer", "proved", "Rust", "ratio");
     for (what, desc, answer) in [("748 bytes, accepted", longest(), 0), ("1,024 bytes, refused 4", refused(), 4 + 256 * 64)] {
         assert_eq!(proved(&desc), answer, "{what}: the proved check");
         assert_eq!(in_rust(&desc), answer, "{what}: the check in Rust");
-        println!("{:>24}  {:>6}  {:>5.0} ns  {:>5.0} ns", what, answer, time(proved, &desc), time(in_rust, &desc));
+        let (ours, plain) = (time(proved, &desc), time(in_rust, &desc));
+        println!("{what:>24}  {answer:>6}  {ours:>5.0} ns  {plain:>5.0} ns  {:>5.2}", ours / plain);
     }
 }

@@ -1,6 +1,7 @@
 #!/usr/bin/env bash
-# Builds the proved check and the proved reader, both of them written in Rust, and the proved reader's own source compiled by rustc; runs them,
-# and prints nanoseconds a call. 'run.sh instructions' counts the instructions of the readers instead, with valgrind.
+# Times the proved check and the proved reader beside others, in one run: both written in Rust, the reader's own source compiled by rustc, Rust by hand
+# with no description, and GNU poke, Python's construct and a parser made by binpac, where they are installed. 'run.sh instructions' counts the
+# instructions of the readers instead, with valgrind.
 set -euo pipefail
 cd "$(dirname "${BASH_SOURCE[0]}")/.."
 
@@ -46,6 +47,39 @@ build() {
     done
 }
 
+# The peers, a line for each: its name, how many times over it reads the export, and its command, which is empty where it is not installed.
+list_peers() {
+    list_poke || printf '(c) GNU poke (Debian: poke)\t0\t\n'
+    list_construct || printf '(d) construct (Debian: python3-construct)\t0\t\n'
+    list_binpac || printf '(e) binpac (Debian: binpac)\t0\t\n'
+}
+
+list_poke() {
+    command -v poke >/dev/null || return
+    printf '(c) %s\t10\tpoke -L bench/peers/intervals.pk\n' "$(poke --version | head -n 1)"
+}
+
+# The first python3 on the PATH may be another than Debian's, which has the package.
+list_construct() {
+    local python version
+    for python in python3 /usr/bin/python3; do
+        version=$("$python" -c 'import construct; print(construct.__version__)' 2>/dev/null) || continue
+        printf '(d) construct %s\t100\t%s bench/peers/intervals.py\n' "$version" "$python"
+        return
+    done
+    return 1
+}
+
+list_binpac() {
+    local made=$out/peers
+    command -v binpac >/dev/null || return
+    mkdir -p "$made"
+    cp bench/peers/intervals.pac "$made/"
+    (cd "$made" && binpac -q intervals.pac) >"$made/log" 2>&1 || fail "binpac can make no parser of bench/peers/intervals.pac: $(cat "$made/log")"
+    g++ -std=c++11 -O3 -I"$made" -Ibench/peers bench/peers/intervals.cc "$made/intervals_pac.cc" -lbinpac -o "$made/intervals"
+    printf '(e) a parser by binpac %s\t10000\t%s\n' "$(dpkg-query -W -f '${Version}' binpac)" "$made/intervals"
+}
+
 # The instructions of so many calls of one of the readers, and of the program around them.
 counted() { # proved|same|rust BYTES TIMES
     # Without the setting, memset clears a table by one instruction that valgrind counts once for each byte.
@@ -72,7 +106,8 @@ case ${1-} in
 '')
     build check read
     "$out/check"
-    "$out/read"
+    list_peers >"$out/peers.list"
+    "$out/read" "$out/export" "$out/peers.list"
     ;;
 instructions) instructions ;;
 *) fail "use: run.sh, or: run.sh instructions" ;;

@@ -1,4 +1,7 @@
-/* Calls the reader as a host does: document 01's case A, refusals over tables that held other words, and null pointers for nothing. */
+/* Calls the reader as a host does: document 01's case A, refusals over tables that held other words, and null pointers for nothing.
+ * `read_test beside 0|1|2|3` makes one call whose description, input, values or descriptors is a block shorter than is said: what watches memory has
+ * to find that. */
+#include "block.h"
 #include "rippleshrug.h"
 
 #include <stdio.h>
@@ -17,19 +20,23 @@ static void expect(int holds, const char *what) {
 
 #define EXPECT(holds) expect(holds, #holds)
 
-/* Tables in blocks of their own, of just so many words, so that a tool sees a word beside them that is read or written. */
+/* Tables in blocks of their own, filled with rubbish. */
 struct tables {
     uint32_t *values, *descriptors;
     size_t value_words, descriptor_words;
 };
 
+static uint32_t *rubbish(size_t words, int byte) {
+    static uint32_t filled[64];
+    if (words > sizeof filled / sizeof filled[0]) exit(2);
+    memset(filled, byte, sizeof filled);
+    return (uint32_t *)block_of(filled, words * sizeof filled[0]);
+}
+
 static struct tables lend(size_t value_words, size_t descriptor_words) {
     struct tables t;
-    t.values = (uint32_t *)malloc(value_words * sizeof *t.values);
-    t.descriptors = (uint32_t *)malloc(descriptor_words * sizeof *t.descriptors);
-    if (t.values == NULL || t.descriptors == NULL) exit(2);
-    memset(t.values, 0xA5, value_words * sizeof *t.values);
-    memset(t.descriptors, 0x5A, descriptor_words * sizeof *t.descriptors);
+    t.values = rubbish(value_words, 0xA5);
+    t.descriptors = rubbish(descriptor_words, 0x5A);
     t.value_words = value_words;
     t.descriptor_words = descriptor_words;
     return t;
@@ -53,7 +60,12 @@ static const uint8_t counters[] = {0x02, 0x10, 0x02, 0x10, 0x0A, 0x10, 0x01, 0x0
 static const uint8_t turned[] = {0xFF, 0xFA, 0x00, 0x04};
 
 static struct rippleshrug_answer read_into(struct tables t, const uint8_t *desc, size_t desc_length, const uint8_t *input, size_t input_length) {
-    return rippleshrug_read(desc, desc_length, input, input_length, t.values, t.value_words, t.descriptors, t.descriptor_words);
+    uint8_t *d = desc == NULL ? NULL : (uint8_t *)block_of(desc, desc_length);
+    uint8_t *i = input == NULL ? NULL : (uint8_t *)block_of(input, input_length);
+    struct rippleshrug_answer answer = rippleshrug_read(d, desc_length, i, input_length, t.values, t.value_words, t.descriptors, t.descriptor_words);
+    free(d);
+    free(i);
+    return answer;
 }
 
 static int answers(struct rippleshrug_answer a, uint32_t refusal, uint32_t node, uint32_t count, uint32_t end) {
@@ -105,7 +117,22 @@ static void test_nothing(void) {
     take_back(t);
 }
 
-int main(void) {
+/* Case A with one of the four blocks shorter by a byte or a word than it is said to be. */
+static void lend_too_little(char which) {
+    uint8_t *desc = (uint8_t *)block_of(counters, sizeof counters - (which == '0'));
+    uint8_t *input = (uint8_t *)block_of(turned, sizeof turned - (which == '1'));
+    struct tables t = lend(20 - (which == '2'), 20 - (which == '3'));
+    rippleshrug_read_slices(desc, sizeof counters, input, sizeof turned, t.values, 20, t.descriptors, 20);
+    free(desc);
+    free(input);
+    take_back(t);
+}
+
+int main(int argc, char **argv) {
+    if (argc == 3 && strcmp(argv[1], "beside") == 0) {
+        lend_too_little(argv[2][0]);
+        return 0;
+    }
     test_case_a();
     test_refusals();
     test_nothing();

@@ -1,5 +1,6 @@
 /* Runs the check over the refusals and acceptances of document 01 and over many more, and compares. With a directory as its argument it
  * also writes each description to a file there, named NUMBER-REFUSAL-NODE, for the program to be run over. */
+#include "block.h"
 #include "rippleshrug.h"
 
 #include <stdio.h>
@@ -172,7 +173,9 @@ static void write_file(const uint8_t *desc, size_t length, unsigned refusal, uns
 }
 
 static void compare(const char *what, const uint8_t *desc, size_t length, unsigned refusal, unsigned node) {
-    uint32_t answer = rippleshrug_check(desc, length);
+    uint8_t *block = desc == NULL ? NULL : (uint8_t *)block_of(desc, length);
+    uint32_t answer = rippleshrug_check(block, length);
+    free(block);
     compared++;
     if (directory != NULL) write_file(desc, desc == NULL ? 0 : length, refusal, node);
     if (answer == refusal + 256 * node) return;
@@ -181,20 +184,19 @@ static void compare(const char *what, const uint8_t *desc, size_t length, unsign
             rippleshrug_node_of(answer));
 }
 
-/* The bytes that stand in hex, in memory that ends with them. */
+/* The bytes that stand in hex. */
 static void compare_hex(const struct expected *e) {
-    size_t length = 0, most = strlen(e->bytes) / 2 + 1;
-    uint8_t *desc = (uint8_t *)malloc(most);
+    static uint8_t desc[2000];
+    size_t length = 0;
     const char *at = e->bytes;
     unsigned byte;
     int used;
-    if (desc == NULL) abort();
     while (sscanf(at, "%2x%n", &byte, &used) == 1) {
+        if (length == sizeof desc) abort();
         desc[length++] = (uint8_t)byte;
         at += used;
     }
     compare(e->bytes, desc, length, e->refusal, e->node);
-    free(desc);
 }
 
 /* One byte over and over. */

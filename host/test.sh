@@ -1,6 +1,6 @@
 #!/usr/bin/env bash
 # Builds the static library and the C hosts of the check and of the reader, runs them over descriptions and records whose answers are known, and
-# compares; the same with the compiler's sanitizers at the library's boundary. Then measures how much stack the reader takes.
+# compares; the same under valgrind, which watches the library's boundary. Then measures how much stack the reader takes.
 set -euo pipefail
 cd "$(dirname "${BASH_SOURCE[0]}")/.."
 
@@ -67,10 +67,11 @@ run_reader() {
     "$out/read_test++" >/dev/null || fail "the reader, called from C++, gave a wrong answer"
 }
 
-# The examples as indented text: what the program prints, and its status.
+# The examples as indented text: what the program prints, and its status. The sanitizers watch the program itself, and not the library.
 run_entries() {
     local example status wanted
-    gcc -std=c99 "${strict[@]}" host/entries.c "$library" -o "$out/entries" || fail "host/entries.c is no C99"
+    gcc -std=c99 "${strict[@]}" -fsanitize=address,undefined -fno-sanitize-recover=all host/entries.c "$library" -o "$out/entries" ||
+        fail "host/entries.c is no C99"
     for example in examples/*/; do
         bash listing/bytes.sh "$example/description.hex" >"$out/description"
         bash listing/bytes.sh "$example/input.hex" >"$out/input"
@@ -87,14 +88,17 @@ run_entries() {
     echo "host: the examples are printed as indented text as they should be: $(ls examples | grep -vc README)"
 }
 
-# Every block is of just the size that is lent, so that a byte read or written beside it is seen.
-run_sanitized() {
-    local sanitized=(-std=c99 -g -O1 -fsanitize=address,undefined -fno-sanitize-recover=all)
-    gcc "${sanitized[@]}" host/test.c "$library" -o "$out/test_sanitized" || fail "host/test.c cannot be built with sanitizers"
-    gcc "${sanitized[@]}" host/read_test.c "$library" -o "$out/read_test_sanitized" || fail "host/read_test.c cannot be built with sanitizers"
-    "$out/test_sanitized" >/dev/null || fail "the check, called from C with sanitizers, is not as it should be"
-    "$out/read_test_sanitized" >/dev/null || fail "the reader, called from C with sanitizers, is not as it should be"
-    echo "host: with address and undefined behaviour sanitizers nothing is found"
+# The library's own reads and writes, over blocks of just the size that is lent. It is valgrind that watches, since the library is not compiled with
+# sanitizers and they would see nothing of it; and it has to find each block that is said to be longer than it is.
+run_watched() {
+    local watch=(valgrind --quiet --error-exitcode=9) which
+    "${watch[@]}" "$out/test" >/dev/null || fail "valgrind found something in the check, as said above"
+    "${watch[@]}" "$out/read_test" >/dev/null || fail "valgrind found something in the reader, as said above"
+    for which in 0 1 2 3; do
+        if "${watch[@]}" "$out/read_test" beside "$which" 2>"$out/watched"; then fail "valgrind does not see what is read or written beside block $which"; fi
+        grep -q 'Invalid \(read\|write\)' "$out/watched" || fail "of block $which valgrind says something else: $(cat "$out/watched")"
+    done
+    echo "host: valgrind finds nothing, and finds each of the four blocks when it is shorter than is said"
 }
 
 # The deepest descriptions, each on a stack of the size that docs/DECISIONS.md tells a host to give.
@@ -103,7 +107,7 @@ measure_stack() {
     "$out/stack" || fail "the reader needs more stack than host/stack.c gives it"
 }
 
-for tool in gcc g++; do
+for tool in gcc g++ valgrind; do
     command -v "$tool" >/dev/null || fail "$tool is not on the PATH"
 done
 build_library
@@ -112,5 +116,5 @@ run_tests
 run_program
 run_reader
 run_entries
-run_sanitized
+run_watched
 measure_stack

@@ -1,4 +1,4 @@
-// What a host calls through the static library: the check, which host/rippleshrug.h declares for C, and a call of the reader.
+// What a host calls through the static library, as host/rippleshrug.h declares it for C: the check, and a call of the reader.
 use description::Verdict;
 use description::refusals;
 use reader::Answer;

@@ -88,7 +88,7 @@ static void print_trouble(const struct description *desc, struct rippleshrug_ent
     switch (desc->kind[e.node]) {
     case BOTTOM: printf("nothing fits here"); break;
     case BITS:
-    case SIGNED: printf("the input ends before its last bit"); break;
+    case SIGNED: printf("the input ends %" PRIu32 " bit%s before its end", e.detail, e.detail == 1 ? "" : "s"); break;
     case WHERE:
         if (e.code == RIPPLESHRUG_FAIL)
             printf("its number is not there");

@@ -89,6 +89,17 @@ static void test_case_a(void) {
     take_back(t);
 }
 
+/* Three bytes: of the second counter 8 bits are missing, and its entry says so. */
+static void test_missing(void) {
+    struct tables t = lend(20, 20);
+    struct rippleshrug_answer answer = read_into(t, counters, sizeof counters, turned, 3);
+    struct rippleshrug_entry second = rippleshrug_entry_at(t.values, t.descriptors, 3);
+    EXPECT(answers(answer, RIPPLESHRUG_ACCEPTED, 0, 5, 16));
+    EXPECT(second.node == 1 && second.number == 0 && second.detail == 8 && second.code == RIPPLESHRUG_FAIL && second.errors == 1);
+    EXPECT(rippleshrug_entry_at(t.values, t.descriptors, 1).detail == 0);
+    take_back(t);
+}
+
 static void test_refusals(void) {
     static const uint8_t wide[] = {0x02, 0x21}, unnamed[] = {0x00, 0x00}, twice[] = {0x00, 0x04, 0x00, 0x00};
     static uint8_t much[8192];
@@ -134,6 +145,7 @@ int main(int argc, char **argv) {
         return 0;
     }
     test_case_a();
+    test_missing();
     test_refusals();
     test_nothing();
     printf("host: the reader, called by its header, is right in %u points\n", made);

@@ -127,7 +127,8 @@ enum rippleshrug_code {
 struct rippleshrug_entry {
     uint32_t node;   /* the node of the description that was read */
     uint32_t number; /* its number, the low 32 bits; 0 for a node that has none */
-    uint32_t detail; /* either: 1 or 2, the part that was taken; sequence: its elements; scan: the bits that it skipped; else 0 */
+    uint32_t detail; /* bits, signed: the bits that are missing, 0 where none is; either: 1 or 2, the part that was taken; sequence: its elements;
+                        scan: the bits that it skipped; else 0 */
     uint32_t size;   /* how many entries are in its subtree, itself included */
     uint32_t begin;  /* the bit at which it begins */
     uint32_t end;    /* the bit after its last */

@@ -10,7 +10,7 @@ const KINDS: [&str; 13] =
 const CODES: [&str; 3] = ["ok", "err", "fail"];
 /// All but 11, which no description reaches.
 const REFUSALS: [u32; 12] = [1, 2, 3, 4, 5, 6, 7, 8, 9, 10, 12, 13];
-const DETAILS: [&str; 8] = [
+const DETAILS: [&str; 10] = [
     "either: the first taken",
     "either: the second taken",
     "sequence: empty",
@@ -19,6 +19,8 @@ const DETAILS: [&str; 8] = [
     "scan: found at once",
     "scan: found after some bits",
     "scan: not found",
+    "bits or signed: whole bytes missing",
+    "bits or signed: another number of bits missing",
 ];
 const SHAPES: [&str; 6] = [
     "tables of one length",
@@ -76,6 +78,8 @@ impl Reached {
             ("scan", _, 2) => DETAILS[7],
             ("scan", 0, _) => DETAILS[5],
             ("scan", _, _) => DETAILS[6],
+            ("bits" | "signed", _, 2) if detail % 8 == 0 => DETAILS[8],
+            ("bits" | "signed", _, 2) => DETAILS[9],
             _ => return,
         };
         self.count(name.to_string());

@@ -4,13 +4,13 @@ use mathlib.Core.List.{List, [], _∷_}
 use mathlib.Core.Logic.{⊎-elim}
 use denote.Enum.Declared.{tagOf}
 use types.Run.{OneOf}
-use Prim.Native.Nat.{ℕ, _+_, _≤_, _<_}
+use Prim.Native.Nat.{ℕ, _+_, _-_, _≤_, _<_}
 use lib.IntN.{ℤ}
 use native.Mathlib.Decide.{decLe}
 use native.Mathlib.Omega.{arith}
 use borrow.Author.Tests.{le-leb, lt-leb}
 use Rattle.bits.specs.Bits.{total}
-use Rattle.bits.specs.Lowest.{lowest}
+use Rattle.bits.specs.Lowest.{missingBits, lowest}
 use Rattle.bits.specs.declared.Lowest.{Lowest}
 use Rattle.bits.specs.declared.Lowest.the-variants.{Number, Missing, TooWide}
 use Rattle.bits.proofs.Lowest.{the-type}
@@ -25,7 +25,7 @@ module _ (input : List ℕ) (o w : ℕ) (z : ℤ) where
   unfolding lowest
   lowest-wide h = rw (lt-leb w 32 h)
 
-  pub lowest-missing : w ≤ 32 → total input < o + w → lowest input o w z ≡ Missing
+  pub lowest-missing : w ≤ 32 → total input < o + w → lowest input o w z ≡ Missing (missingBits input o w)
   unfolding lowest
   lowest-missing h m = rw (le-leb w 32 h, lt-leb (o + w) (total input) m)
 
@@ -42,9 +42,21 @@ module _ (input : List ℕ) (o w : ℕ) (z : ℤ) where
       go (yes h) (no f) = let n : _≡_ {A = ℕ} 0 1 = cc (lowest-missing h (omega arith)) in absurd (omega arith)
       go (no f) t = let n : _≡_ {A = ℕ} 0 1 = cc (lowest-wide (omega arith)) in absurd (omega arith)
 
-  pub is-missing : w ≤ 32 → OneOf (1 ∷ 2 ∷ []) (tagOf the-type (lowest input o w z)) → total input < o + w
-  is-missing h other = go (decLe (o + w) (total input))
+  pub is-missing : (n : ℕ) → w ≤ 32 → lowest input o w z ≡ Missing n → (total input < o + w) × (n ≡ missingBits input o w)
+  is-missing n h e = go (decLe (o + w) (total input))
     where
-      go : Dec (o + w ≤ total input) → total input < o + w
-      go (yes t) = absurd (no-number (lowest input o w z) z other (lowest-number h t))
-      go (no f) = omega arith
+      go : Dec (o + w ≤ total input) → (total input < o + w) × (n ≡ missingBits input o w)
+      go (yes t) = let m : _≡_ {A = ℕ} 0 1 = cc (lowest-number h t) in absurd (omega arith)
+      go (no f) = let past : total input < o + w = omega arith in (past, cc (lowest-missing h past))
+
+  pub not-wide : w ≤ 32 → lowest input o w z ≡ TooWide → ⊥
+  not-wide h e = go (decLe (o + w) (total input))
+    where
+      go : Dec (o + w ≤ total input) → ⊥
+      go (yes t) = let m : _≡_ {A = ℕ} 0 1 = cc (lowest-number h t) in omega arith
+      go (no f) = let m : _≡_ {A = ℕ} 0 1 = cc (lowest-missing h (omega arith)) in omega arith
+
+-- Where an offset is inside the input, what is missing is no more than is wanted, and told as it is.
+pub missing-within : (input : List ℕ) (o w : ℕ) → o ≤ total input → w ≤ 32 → missingBits input o w ≡ o + w - total input
+unfolding missingBits
+missing-within input o w h n = omega arith

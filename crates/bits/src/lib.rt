@@ -4,17 +4,20 @@ ghost use Prim.Native.Nat.{_+_, _^_, _≤_, _<_};
 ghost use lib.Dec.{leb};
 ghost use Rattle.bits.specs.Bits.{total, bit, number};
 ghost use Rattle.bits.specs.Whole.{twosComplement};
-ghost use Rattle.bits.specs.Lowest.{lowestUnsigned, lowestSigned};
+ghost use Rattle.bits.specs.Lowest.{missingBits, lowestUnsigned, lowestSigned};
 
 // What a number read finds.
 pub enum Lowest {
     // The bits are all there: their number.
     Number(i64),
-    // The input ends before the last of them.
-    Missing,
+    // The input ends before the last of them: how many bits are missing, counted from its end to theirs.
+    Missing(usize),
     // The width is above 32.
     TooWide,
 }
+
+// The largest number of 64 bits.
+const MOST: usize = 18446744073709551615;
 
 // The w bits from offset o on, as an unsigned number.
 pub fn unsigned(input: &[u8], o: usize, w: u8) -> Lowest
@@ -26,7 +29,7 @@ pub fn unsigned(input: &[u8], o: usize, w: u8) -> Lowest
     if there(input, o, w) {
         Lowest::Number(gather(input, o, w) as i64)
     } else {
-        Lowest::Missing
+        Lowest::Missing(missing(input, o, w))
     }
 }
 
@@ -40,7 +43,7 @@ pub fn signed(input: &[u8], o: usize, w: u8) -> Lowest
     if there(input, o, w) {
         Lowest::Number(twos_complement(w, gather(input, o, w)))
     } else {
-        Lowest::Missing
+        Lowest::Missing(missing(input, o, w))
     }
 }
 
@@ -55,6 +58,24 @@ fn there(input: &[u8], o: usize, w: u8) -> bool
         return false;
     }
     touched <= input.len() - at
+}
+
+// "o + w - T": how many bits are missing. o + w may pass 64 bits, so bytes are counted, and the largest number stands for every larger one.
+fn missing(input: &[u8], o: usize, w: u8) -> usize
+    requires { ⌜ w ≤ 32 ⌝ }
+    requires { ⌜ total (now input) < o + w ⌝ }
+    ensures { λ r. ⌜ r ≡ missingBits (now (input .entry)) o w ⌝ }
+{
+    let at = o / 8;
+    let wanted = o % 8 + w as usize;
+    if input.len() < at {
+        let past = 8 * (at - input.len());
+        if MOST - past < wanted {
+            return MOST;
+        }
+        return past + wanted;
+    }
+    wanted - 8 * (input.len() - at)
 }
 
 // The number of the w bits from offset o on, which are all there.

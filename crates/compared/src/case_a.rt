@@ -36,6 +36,6 @@ pub fn others(t: Tally) -> Tally {
         b"case A over FF FA 00: node 1 fails at 16, use reads 6 with 0 errors",
         &COUNTERS,
         b"\xFF\xFA\x00",
-        b"ok 5 16\n4 0 16 2 1 0 0 5\n0 0 16 0 0 65530 0 1\n3 16 16 2 1 0 0 3\n1 16 16 2 1 0 0 1\n2 16 16 0 0 6 0 1\n",
+        b"ok 5 16\n4 0 16 2 1 0 0 5\n0 0 16 0 0 65530 0 1\n3 16 16 2 1 0 0 3\n1 16 16 2 1 0 8 1\n2 16 16 0 0 6 0 1\n",
     )
 }

@@ -19,6 +19,7 @@ fn main() {
     let t = readings::eithers(t);
     let t = readings::sequences(t);
     let t = readings::numbers(t);
+    let t = readings::missing(t);
     let t = readings::refusals(t);
     let t = easily_wrong::abandoned(t);
     let t = easily_wrong::one_from_each_side(t);

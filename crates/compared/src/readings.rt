@@ -25,7 +25,7 @@ pub fn eithers(t: Tally) -> Tally {
         b"either over no bytes: root 1 error, fail, end 0",
         &EITHER,
         b"",
-        b"ok 2 0\n3 0 0 2 1 0 2 2\n2 0 0 2 1 0 0 1\n",
+        b"ok 2 0\n3 0 0 2 1 0 2 2\n2 0 0 2 1 0 4 1\n",
     )
 }
 
@@ -36,7 +36,7 @@ pub fn sequences(t: Tally) -> Tally {
         b"sequence over 00: two elements, 1 error, err, end 5",
         &FIVES,
         b"\x00",
-        b"ok 4 5\n3 0 5 1 1 0 2 4\n0 0 5 0 0 0 0 1\n1 5 5 0 0 0 0 1\n0 5 5 2 1 0 0 1\n",
+        b"ok 4 5\n3 0 5 1 1 0 2 4\n0 0 5 0 0 0 0 1\n1 5 5 0 0 0 0 1\n0 5 5 2 1 0 2 1\n",
     );
     over(
         t,
@@ -96,4 +96,22 @@ pub fn refusals(t: Tally) -> Tally {
         b"refused 7 1\n",
     );
     over(t, b"0B 00: refused 6", b"\x0B\x00", b"", b"refused 6 0\n")
+}
+
+// Request 1: how many bits were missing.
+pub fn missing(t: Tally) -> Tally {
+    let t = over(
+        t,
+        b"signed 16 from bit 5 of FF FF: 5 bits missing",
+        b"\x02\x05\x03\x10\x04\x00\x01",
+        b"\xFF\xFF",
+        b"ok 3 5\n2 0 5 2 1 0 0 3\n0 0 5 0 0 31 0 1\n1 5 5 2 1 0 5 1\n",
+    );
+    over(
+        t,
+        b"either, scan and absorb over 2A: of what is missing the either's second part alone is kept",
+        b"\x02\x10\x02\x0C\x06\x00\x01\x02\x10\x0C\x03\x02\x10\x0B\x05\x04\x04\x06\x04\x02\x07",
+        b"\x2A",
+        b"ok 6 0\n8 0 0 2 2 0 0 6\n2 0 0 2 1 0 2 2\n1 0 0 2 1 0 4 1\n7 0 0 2 2 0 0 3\n4 0 0 2 1 0 0 1\n6 0 0 2 1 0 0 1\n",
+    )
 }

@@ -12,10 +12,12 @@ use Rattle.rules.specs.Entries.{Entry}
 use Rattle.rules.specs.Outcome.{Outcome, success, mostInput, outcome}
 use Rattle.rules.specs.Reading.{read}
 use Rattle.rules.specs.Tables.{room}
+use Rattle.promises.specs.Missing.{MissingTold}
 use Rattle.promises.specs.Places.{Place, placeOf, ZeroErrorsFit, FitsZeroErrors}
 use Rattle.promises.specs.Spans.{Spans}
 use Rattle.promises.specs.Table.{entryAt}
 use Rattle.promises.proofs.EachEntry.{each-placed, zero-errors-fit, fits-zero-errors}
+use Rattle.promises.proofs.Missing.{missing-told}
 use Rattle.promises.proofs.Spanning.{success-spans}
 use Rattle.promises.proofs.Stuck.{never-stuck}
 use Rattle.reader.specs.Answers.{said, given}
@@ -56,3 +58,6 @@ module _ (v d : ℕ) (desc input : List ℕ) (count end : ℕ) (values descripto
 
     pub caller-clean : FitsZeroErrors input root (entryAt values descriptors) count
     caller-clean = held (λ at. FitsZeroErrors input root at count) (fits-zero-errors v d desc input count end succeeds root means)
+
+    pub caller-missing : MissingTold input root (entryAt values descriptors) count
+    caller-missing = held (λ at. MissingTold input root at count) (missing-told v d desc input count end succeeds root means)

@@ -14,13 +14,14 @@ use Rattle.rules.specs.Outcome.{Outcome, mostInput, outcome}
 use Rattle.rules.specs.Reading.{read}
 use Rattle.rules.specs.Tables.{room}
 use Rattle.rules.proofs.Evaluate.{evaluated}
+use Rattle.promises.specs.Missing.{MissingTold}
 use Rattle.promises.specs.Places.{ZeroErrorsFit, FitsZeroErrors}
 use Rattle.promises.specs.Spans.{Spans}
 use Rattle.promises.specs.Table.{entryAt}
-use Rattle.promises.proofs.Cases.{counters, turned, counters-tree, counters-mean}
+use Rattle.promises.proofs.Cases.{counters, turned, counters-tree, counters-mean, cut}
 use Rattle.reader.specs.Answers.{said, given}
 use Rattle.reader.specs.declared.Answer.the-variants.{Success, NoRoom}
-use Rattle.contracts.proofs.Callers.{caller-unstuck, caller-spans, caller-fits, caller-clean}
+use Rattle.contracts.proofs.Callers.{caller-unstuck, caller-spans, caller-fits, caller-clean, caller-missing}
 use Rattle.contracts.proofs.WrongReaders.{elements, entry-count, element-count}
 
 -- case A's call
@@ -48,6 +49,17 @@ turned-clean = caller-clean 20 20 counters turned 5 32 (o .values) (o .descripto
 
 turned-count : 5 ≡ length (read turned counters-tree [] 0 .entries)
 turned-count = entry-count 20 20 counters turned 5 32 (o .values) (o .descriptors) turned-call counters-tree counters-mean
+
+-- case A over FF FA 00
+abbrev short : Outcome
+short = outcome 20 20 counters cut
+
+cut-call : given (Success 5 16) (short .values) (short .descriptors) ≡ short
+unfolding evaluated given said
+cut-call = refl
+
+cut-told : MissingTold cut counters-tree (entryAt (short .values) (short .descriptors)) 5
+cut-told = caller-missing 20 20 counters cut 5 16 (short .values) (short .descriptors) cut-call counters-tree counters-mean
 
 -- bytes over 01 02
 abbrev two : Outcome

@@ -2,6 +2,7 @@
 use Prim.Native.Nat.{ℕ, zero, suc}
 use mathlib.Core.Bool.{false}
 use mathlib.Core.List.{List, [], _∷_}
+use mathlib.Core.Logic.{inl}
 use mathlib.Core.Option.{some}
 use mathlib.Core.Path.{_≡_, refl}
 use native.Mathlib.Omega.{arith}
@@ -18,6 +19,7 @@ use Rattle.rules.specs.Reading.{doneAt, read}
 use Rattle.rules.specs.Rounds.{rounds}
 use Rattle.rules.proofs.Evaluate.{evaluated}
 use Rattle.rules.proofs.FittingCases.{entry, absorbed}
+use Rattle.promises.specs.Missing.{Told}
 use Rattle.promises.specs.Places.{here, turns, placeIn, placeOf, FitsAt, absorbs, NoneAbsorbed, ZeroErrorsFit}
 use Rattle.promises.specs.Spans.{Spans}
 use Rattle.promises.specs.Table.{entryAt, after, entries, beneath}
@@ -25,6 +27,7 @@ use Rattle.promises.proofs.Accepted.{accepted-sound}
 use Rattle.promises.proofs.Bounds.{sequence-bound}
 use Rattle.promises.proofs.Copied.{Copy, copied-bits, copied-signed}
 use Rattle.promises.proofs.EachEntry.{zero-errors-fit, fits-zero-errors}
+use Rattle.promises.proofs.Missing.{missing-told}
 use Rattle.promises.proofs.Sound.{Sound}
 use Rattle.promises.proofs.Spanning.{success-spans}
 use Rattle.promises.proofs.Stuck.{with-room, without-room}
@@ -90,6 +93,26 @@ five-bits : (let done = doneAt (0x00 ∷ []) (negsuc 0) (read (0x00 ∷ []) (bot
     ≡ rounds (read (0x00 ∷ []) (bits 0 5) []) (read (0x00 ∷ []) (unit 1) []) done 8 0)
 unfolding total
 five-bits = sequence-bound (0x00 ∷ []) (bits 0 5) (unit 1) (bottom 2) (negsuc 0) [] 100 0 (lit≤ tt) (lit≤ tt)
+
+-- Case A over FF FA 00: 8 of the 16 bits of the second counter, entry 3, are missing.
+abbrev pub cut : List ℕ
+cut = 0xff ∷ 0xfa ∷ 0x00 ∷ []
+
+pub cut-read : outcome 20 20 counters cut .answer ≡ success 5 16
+unfolding evaluated
+cut-read = refl
+
+abbrev cut-at : ℕ → Entry
+cut-at = entryAt (outcome 20 20 counters cut .values) (outcome 20 20 counters cut .descriptors)
+
+cut-told : Told cut 16 (cut-at 3)
+unfolding evaluated entryAt placeOf placeIn here turns after
+cut-told =
+    missing-told 20 20 counters cut 5 16 cut-read counters-tree counters-mean 3 (lit< tt) (record { tree = bits 1 16; lent = _ }) refl 16 (1, inl refl)
+
+cut-detail : cut-at 3 .detail ≡ 8
+unfolding evaluated entryAt
+cut-detail = refl
 
 -- An absorb in the part that an either did not take: no entry is of it, and the either has zero errors because it fits.
 abbrev choice : List ℕ

@@ -88,7 +88,8 @@ module _ (v d : ℕ) (desc input : List ℕ) (count end : ℕ) (success : outcom
   abbrev pub at : ℕ → Entry
   at = entryAt (outcome v d desc input .values) (outcome v d desc input .descriptors)
 
-  found : (i : ℕ) → i < count → Located input root at i (placeOf root at i)
+  -- What is found of it.
+  pub found : (i : ℕ) → i < count → Located input root at i (placeOf root at i)
   unfolding placeOf
   found i inside =
       let s = succeeded v d desc input count end success in

@@ -33,5 +33,7 @@ pub mod Located
 pub mod Locating
 pub mod EachEntry
 pub mod Copied
+-- Request 1: how much was missing.
+pub mod Missing
 -- Calls and tables that meet the hypotheses.
 pub mod Cases

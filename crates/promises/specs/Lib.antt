@@ -2,3 +2,4 @@
 pub mod Table
 pub mod Spans
 pub mod Places
+pub mod Missing

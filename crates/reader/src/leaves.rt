@@ -35,7 +35,7 @@ pub fn leaf(
 {
     let node = at.node;
     match kind {
-        1 => owns::failed(node, o),
+        1 => owns::failed(node, o, 0),
         2 | 3 => {
             let w = places::field_of(desc, starts, node, 0);
             bits_or_none(input, kind, node, o, w)
@@ -46,14 +46,17 @@ pub fn leaf(
 }
 
 // "with o + w at most T, the w bits as unsigned or two's complement number, end o + w, ok. Otherwise end o, number 0, 1 error, fail."
+// "its missing bits too, o + w - T, and the detail word of its entry holds them" (request 1).
 fn bits_or_none(input: &[u8], kind: u8, node: usize, o: u32, w: u8) -> Own
     requires { ⌜ (length (now input) ≤ mostInput) × (o ≤ total (now input)) × (w ≤ 32) ⌝ }
     ensures { λ r. ⌜ readBits (now (input .entry)) node o w (numberFor kind w (number (now (input .entry)) o w)) ≡ made r [] ⌝ }
 {
-    let bits::Lowest::Number(z) = lowest_for(input, kind, o, w) else {
-        return owns::failed(node, o);
-    };
-    owns::clean(node, o, o + w as u32, z)
+    match lowest_for(input, kind, o, w) {
+        bits::Lowest::Number(z) => owns::clean(node, o, o + w as u32, z),
+        bits::Lowest::Missing(missing) => owns::failed(node, o, missing as u32),
+        // no width is above 32
+        bits::Lowest::TooWide => owns::failed(node, o, 0),
+    }
 }
 
 // "as unsigned or two's complement number", by the kind.

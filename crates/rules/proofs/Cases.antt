@@ -104,12 +104,12 @@ cases =
     ∷ line 1 16 32 0 0 65535 0 1
     ∷ line 2 32 32 0 0 65535 0 1
     ∷ [])
-    -- P: over FF FA 00, node 1 fails at 16, use reads 6 with 0 errors, root 1 error, fail, end 16
+    -- P: over FF FA 00, node 1 fails at 16, with 8 bits missing; use reads 6 with 0 errors, root 1 error, fail, end 16
     ∷ reads counters (0xff ∷ 0xfa ∷ 0x00 ∷ []) 20 20 5 16
     (line 4 0 16 2 1 0 0 5
     ∷ line 0 0 16 0 0 65530 0 1
     ∷ line 3 16 16 2 1 0 0 3
-    ∷ line 1 16 16 2 1 0 0 1
+    ∷ line 1 16 16 2 1 0 8 1
     ∷ line 2 16 16 0 0 6 0 1
     ∷ [])
     -- P: the either over 2A: detail 1, three entries, end 8
@@ -123,12 +123,12 @@ cases =
     (line 3 0 4 0 0 0 2 2
     ∷ line 2 0 4 0 0 2 0 1
     ∷ [])
-    -- P: the sequence over 00: two elements, 1 error, err, end 5
+    -- P: the sequence over 00: two elements, 1 error, err, end 5; of the second 2 bits are missing
     ∷ reads sequenceOf (0x00 ∷ []) 16 16 4 5
     (line 3 0 5 1 1 0 2 4
     ∷ line 0 0 5 0 0 0 0 1
     ∷ line 1 5 5 0 0 0 0 1
-    ∷ line 0 5 5 2 1 0 0 1
+    ∷ line 0 5 5 2 1 0 2 1
     ∷ [])
     -- P: over no bytes: empty, ok, one entry
     ∷ reads sequenceOf [] 4 4 1 0
@@ -154,6 +154,21 @@ cases =
     ∷ refuses (0x00 ∷ 0x00 ∷ []) [] 4 4 9 0
     -- P: 00 04 00 00 refused 7, node 1
     ∷ refuses (0x00 ∷ 0x04 ∷ 0x00 ∷ 0x00 ∷ []) [] 4 4 7 1
+    -- 5 bits are missing of a signed number of 16 that begins at bit 5
+    ∷ reads (0x02 ∷ 0x05 ∷ 0x03 ∷ 0x10 ∷ 0x04 ∷ 0x00 ∷ 0x01 ∷ []) (0xff ∷ 0xff ∷ []) 12 12 3 5
+    (line 2 0 5 2 1 0 0 3
+    ∷ line 0 0 5 0 0 31 0 1
+    ∷ line 1 5 5 2 1 0 5 1
+    ∷ [])
+    -- of a failed read an either keeps the entry of the part that it takes, with 4 bits missing; a scan and an absorb keep none
+    ∷ reads (0x02 ∷ 0x10 ∷ 0x02 ∷ 0x0c ∷ 0x06 ∷ 0x00 ∷ 0x01 ∷ 0x02 ∷ 0x10 ∷ 0x0c ∷ 0x03 ∷ 0x02 ∷ 0x10 ∷ 0x0b ∷ 0x05 ∷ 0x04 ∷ 0x04 ∷ 0x06 ∷ 0x04 ∷ 0x02 ∷ 0x07 ∷ []) (0x2a ∷ []) 24 24 6 0
+    (line 8 0 0 2 2 0 0 6
+    ∷ line 2 0 0 2 1 0 2 2
+    ∷ line 1 0 0 2 1 0 4 1
+    ∷ line 7 0 0 2 2 0 0 3
+    ∷ line 4 0 0 2 1 0 0 1
+    ∷ line 6 0 0 2 1 0 0 1
+    ∷ [])
     -- then adds at most one error from each side: the first side has 2, the root 1
     ∷ reads (0x01 ∷ 0x01 ∷ 0x04 ∷ 0x00 ∷ 0x01 ∷ 0x00 ∷ 0x04 ∷ 0x02 ∷ 0x03 ∷ []) [] 20 20 5 0
     (line 4 0 0 2 1 0 0 5

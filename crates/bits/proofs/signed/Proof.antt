@@ -2,12 +2,12 @@
 use borrow.Author.Needs.{needs, sfits-of}
 use borrow.Author.Tests.{leb-true, leb-false}
 use mathlib.Core.Path.{sym, ap, _∙_}
-use Prim.Native.Nat.{_+_, _≤_}
+use Prim.Native.Nat.{_+_, _≤_, _<_}
 use mir.Facts.{toZ-ofZ}
 use mir.Syntax.{w64}
 use Rattle.bits.specs.Bits.{total}
 use Rattle.bits.specs.Whole.{twosComplement}
-use Rattle.bits.specs.declared.Lowest.the-variants.{Number}
+use Rattle.bits.specs.declared.Lowest.the-variants.{Number, Missing}
 use Rattle.bits.proofs.Answers.{lowest-wide, lowest-missing, lowest-number}
 use Rattle.bits.proofs.Numbers.{number-below}
 use Rattle.bits.proofs.signed.Statement.{statement}
@@ -37,11 +37,18 @@ returns-2 c =
     ap Number (toZ-ofZ (sfits-of {w = w64} (c .twos-complement .ok)) ∙ c .twos-complement .ensures ∙ ap (twosComplement (a .w)) (c .before .gather .ensures))
     ∙ sym (lowest-number _ _ _ _ (at .before .before .if1 .left) (all-there at))
 
+some-missing : (c : tie.Else2) → let a = c .before .before .before .before .args in total (a .input .now) < a .o + a .w
+some-missing c = leb-false _ _ (sym (c .before .there .ensures) ∙ c .if2 .left)
+
+missing-requires : tie.Need-missing-requires
+missing-requires c κs = (c .before .before .if1 .left, some-missing c)
+
 returns-3 : tie.Need-returns-3
 returns-3 c =
-    sym (lowest-missing _ _ _ _ (c .before .before .if1 .left) (leb-false _ _ (sym (c .before .there .ensures) ∙ c .if2 .left)))
+    let at = c .before in
+    ap Missing (c .missing .ensures) ∙ sym (lowest-missing _ _ _ _ (at .before .before .if1 .left) (some-missing at))
 
 pub signed-spec : {M : Type 1} → statement M
 signed-spec =
     tie.close
-    (tie.spec returns there-requires gather-requires twos-complement-requires returns-2 returns-3)
+    (tie.spec returns there-requires gather-requires twos-complement-requires missing-requires returns-2 returns-3)

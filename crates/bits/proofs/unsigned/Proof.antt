@@ -8,7 +8,7 @@ use lib.IntN.{pos}
 use mir.Facts.{toZ-pos}
 use mir.Syntax.{w64}
 use Rattle.bits.specs.Bits.{total}
-use Rattle.bits.specs.declared.Lowest.the-variants.{Number}
+use Rattle.bits.specs.declared.Lowest.the-variants.{Number, Missing}
 use Rattle.bits.proofs.Answers.{lowest-wide, lowest-missing, lowest-number}
 use Rattle.bits.proofs.Numbers.{number-small}
 use Rattle.bits.proofs.unsigned.Statement.{statement}
@@ -40,9 +40,16 @@ returns-2 c =
     ap Number (toZ-pos w64 (small c) ∙ ap pos (c .gather .ensures))
     ∙ sym (lowest-number _ _ _ _ (at .before .before .if1 .left) (all-there at))
 
+some-missing : (c : tie.Else2) → let a = c .before .before .before .before .args in total (a .input .now) < a .o + a .w
+some-missing c = leb-false _ _ (sym (c .before .there .ensures) ∙ c .if2 .left)
+
+missing-requires : tie.Need-missing-requires
+missing-requires c κs = (c .before .before .if1 .left, some-missing c)
+
 returns-3 : tie.Need-returns-3
 returns-3 c =
-    sym (lowest-missing _ _ _ _ (c .before .before .if1 .left) (leb-false _ _ (sym (c .before .there .ensures) ∙ c .if2 .left)))
+    let at = c .before in
+    ap Missing (c .missing .ensures) ∙ sym (lowest-missing _ _ _ _ (at .before .before .if1 .left) (some-missing at))
 
 pub unsigned-spec : {M : Type 1} → statement M
-unsigned-spec = tie.close (tie.spec returns there-requires gather-requires cast-t8 returns-2 returns-3)
+unsigned-spec = tie.close (tie.spec returns there-requires gather-requires cast-t8 missing-requires returns-2 returns-3)

@@ -42,7 +42,10 @@ module _ (input : List ℕ) (at : ℕ → Entry) (i n w o : ℕ) (z : ℤ) (with
   unfolding readBits reading
   bits-told =
       by-test (λ (r : Reading). Agrees at i (r .entries) → Told input w (at i)) (leb (o + w) (total input))
-      (λ t a. inl (ap (λ (e : Entry). e .code) (a .0), ap (λ (e : Entry). e .detail) (a .0)))
+      (λ t a.
+      let begins = ap (λ (e : Entry). e .begin) (a .0) in
+      let there : o + w ≤ total input = leb-true (o + w) (total input) t in
+      inl (omega (arith, begins), ap (λ (e : Entry). e .code) (a .0), ap (λ (e : Entry). e .detail) (a .0)))
       (λ t a.
       let begins = ap (λ (e : Entry). e .begin) (a .0) in
       let missing = ap (λ (e : Entry). e .detail) (a .0) in

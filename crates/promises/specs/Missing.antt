@@ -13,7 +13,7 @@ use Rattle.promises.specs.Places.{Place, placeOf}
 -- What an entry of a number of w bits tells: it was all there, or so many of its bits are missing, from 1 to w and so to 32.
 abbrev pub Told : (input : List ℕ) (w : ℕ) → Entry → Type 0
 Told input w e =
-    ((e .code ≡ ok) × (e .detail ≡ 0))
+    ((e .begin + w ≤ total input) × (e .code ≡ ok) × (e .detail ≡ 0))
     ⊎ ((e .code ≡ fail) × (e .detail ≡ e .begin + w - total input) × (1 ≤ e .detail) × (e .detail ≤ w) × (w ≤ 32))
 
 -- A tree that is a number of w bits.

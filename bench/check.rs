@@ -3,7 +3,7 @@
 use std::hint::black_box;
 use std::time::Instant;
 
-#[allow(dead_code)] // the reader, which is timed by itself
+#[allow(dead_code)] // the reader and the writer, which are timed by themselves
 #[path = "../tests/src/library.rs"]
 mod library;
 #[path = "plain/description.rs"]

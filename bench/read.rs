@@ -8,7 +8,7 @@
 #[path = "plain/description.rs"]
 mod description;
 mod export;
-#[allow(dead_code)] // the check, which is timed by itself
+#[allow(dead_code)] // the check and the writer, which are timed by themselves
 #[path = "../tests/src/library.rs"]
 mod library;
 mod peers;
@@ -27,11 +27,9 @@ mod same {
 
 use export::{by_hand, from_entries, from_intervals, Interval, Sums};
 use library::{read as proved, Answer};
-use records::{best_of, fields, Record};
+use records::{best_of, fields, outcome, Read, Record};
 use same::description::refusals;
 use std::hint::black_box;
-
-type Read = fn(&[u8], &[u8], &mut [u32], &mut [u32]) -> Answer;
 
 fn same_source(desc: &[u8], input: &[u8], values: &mut [u32], descriptors: &mut [u32]) -> Answer {
     let refused = |refusal, node| Answer { refusal, node, count: 0, end: 0 };
@@ -47,6 +45,28 @@ fn same_source(desc: &[u8], input: &[u8], values: &mut [u32], descriptors: &mut 
 const OTHERS: [(&str, Read); 2] = [("same", same_source), ("rust", reader::read)];
 
 const EXPORT_BYTES: usize = 8191;
+
+fn compare(desc: &[u8], input: &[u8], values: usize, descriptors: usize) {
+    let ours = outcome(proved, desc, input, values, descriptors);
+    for (name, read) in &OTHERS {
+        let other = outcome(*read, desc, input, values, descriptors);
+        let case = || format!("proved and {name}, {desc:02X?} over {} bytes, tables of {values} and {descriptors} words", input.len());
+        assert_eq!(ours.0, other.0, "the answers differ: {}", case());
+        assert!(ours == other, "the tables differ: {}", case());
+    }
+}
+
+/// Returns how many readings were compared.
+fn compare_all() -> usize {
+    let readings = readings::all();
+    let tables = [(4 * 70_000, 4 * 70_000), (4096, 4096), (24, 22), (20, 20), (16, 40), (3, 7), (0, 0)];
+    for (desc, input) in &readings {
+        for (values, descriptors) in tables {
+            compare(desc, input, values, descriptors);
+        }
+    }
+    readings.len() * tables.len()
+}
 
 /// A row of the table of ratios.
 fn row(name: &str, took: f64, ours: f64) {
@@ -92,7 +112,10 @@ fn time_export(file: &str, list: &str) {
 
 /// What a visit costs over this record.
 fn time_visits(nodes: usize, mut record: Record) {
-    let [ours, same, plain] = record.time([proved, OTHERS[0].1, OTHERS[1].1]);
+    let readers = [proved, OTHERS[0].1, OTHERS[1].1];
+    let [ours, same, plain] = best_of(3_000, readers.map(|_| record.turns()), |which| {
+        record.call(readers[which]);
+    });
     let visit = |took: f64| took / record.visits as f64;
     let (bytes, visits) = (record.input.len(), record.visits);
     let [a, b, c] = [ours, same, plain].map(visit);
@@ -107,7 +130,7 @@ fn time_all_visits() {
         time_visits(8, Record::of_intervals(length));
     }
     for count in [1, 3, 7, 15, 31] {
-        time_visits(2 * usize::from(count) + 2, Record::new(fields(count), vec![0x5A; 4096]));
+        time_visits(2 * count + 2, Record::new(fields(&[8].repeat(count)), vec![0x5A; 4096]));
     }
 }
 
@@ -116,7 +139,7 @@ fn main() {
     let words: Vec<&str> = args.iter().map(String::as_str).collect();
     match words[..] {
         [file, list] => {
-            println!("{} readings are the same, answers and tables", readings::compare_all());
+            println!("{} readings are the same, answers and tables", compare_all());
             time_export(file, list);
             time_all_visits();
         }

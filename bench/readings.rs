@@ -1,7 +1,6 @@
-//! Readings on which all readers have to agree before one is timed.
+//! Readings on which all readers have to agree, and all writers on what was read, before one is timed.
 
-use crate::records::{bytes, intervals, outcome, INTERVALS};
-use crate::{proved, OTHERS};
+use crate::records::{bytes, intervals, INTERVALS};
 
 const CASE_A: &str = "02 10 02 10 0A 10 01 01 00 00 00 00 01 00 00 00 01 05 01 02 05 00 03";
 
@@ -47,29 +46,13 @@ const READINGS: &[(&str, &str)] = &[
     ("02 08 02 08 08 01 00 00 00 00 00 80 04 00 02 02 03 08 04 00 00 00 00 00 07 06 03 05 0C 06", "11 22 33 80 FF"),
 ];
 
-fn compare(desc: &[u8], input: &[u8], values: usize, descriptors: usize) {
-    let ours = outcome(proved, desc, input, values, descriptors);
-    for (name, read) in &OTHERS {
-        let other = outcome(*read, desc, input, values, descriptors);
-        let case = || format!("proved and {name}, {desc:02X?} over {} bytes, tables of {values} and {descriptors} words", input.len());
-        assert_eq!(ours.0, other.0, "the answers differ: {}", case());
-        assert!(ours == other, "the tables differ: {}", case());
-    }
-}
-
-/// Returns how many readings were compared.
-pub fn compare_all() -> usize {
+/// All of them: description and input.
+pub fn all() -> Vec<(Vec<u8>, Vec<u8>)> {
     let mut readings: Vec<_> = READINGS.iter().map(|(desc, input)| (bytes(desc), bytes(input))).collect();
     readings.extend([80, 800, 8191, 8192].map(|length| (bytes(INTERVALS), intervals(length))));
     readings.push((bytes("02 01 00 01 09 00 01 02 00 FF FF FF FF"), vec![0x5A; 4096]));
     for (relation, byte) in (0..6).flat_map(|relation| [0x29, 0x2A, 0x2B].map(|byte| (relation, byte))) {
         readings.push((vec![2, 8, 8, 0, relation, 0, 0, 0, 0, 0x2A], vec![byte]));
     }
-    let tables = [(4 * 70_000, 4 * 70_000), (4096, 4096), (24, 22), (20, 20), (16, 40), (3, 7), (0, 0)];
-    for (desc, input) in &readings {
-        for (values, descriptors) in tables {
-            compare(desc, input, values, descriptors);
-        }
-    }
-    readings.len() * tables.len()
+    readings
 }

@@ -1,8 +1,10 @@
-//! What is read: exports of intervals, and records of more and more fields.
+//! What is read and written back: exports of intervals, and records of more and more fields.
 
-use crate::{proved, Answer, Read};
+use crate::library::{read as proved, Answer};
 use std::hint::black_box;
 use std::time::Instant;
+
+pub type Read = fn(&[u8], &[u8], &mut [u32], &mut [u32]) -> Answer;
 
 /// Two counters of 16 bits and the use between them, modulo 2^16, over and over: a sequence with a unit as its separator, a bottom as its
 /// terminator and -1 as its operand, so that it ends with the input.
@@ -18,9 +20,10 @@ pub fn intervals(length: usize) -> Vec<u8> {
     counters.flat_map(|c| [c as u16, (c + 10) as u16]).flat_map(u16::to_be_bytes).take(length).collect()
 }
 
-/// So many fields of a byte each, joined by thens from the last to the first, over and over as the intervals are: 2 * fields + 2 nodes.
-pub fn fields(fields: u8) -> Vec<u8> {
-    let mut desc = [2, 8].repeat(fields.into());
+/// Fields of these widths, joined by thens from the last to the first, over and over as the intervals are: 2 * fields + 2 nodes.
+pub fn fields(widths: &[u8]) -> Vec<u8> {
+    let mut desc: Vec<u8> = widths.iter().flat_map(|&width| [2, width]).collect();
+    let fields = widths.len() as u8;
     let mut record = fields - 1;
     for field in (0..fields - 1).rev() {
         desc.extend([4, field, record]);
@@ -39,7 +42,7 @@ pub fn outcome(read: Read, desc: &[u8], input: &[u8], values: usize, descriptors
 
 /// A sequence over an input, and tables that its entries fill.
 pub struct Record {
-    desc: Vec<u8>,
+    pub desc: Vec<u8>,
     pub input: Vec<u8>,
     pub entries: usize,
     /// The entries, and the terminator once in each round: it is looked at and leaves none.
@@ -69,12 +72,9 @@ impl Record {
         (&self.values, &self.descriptors)
     }
 
-    /// Nanoseconds a call of each reader.
-    pub fn time<const N: usize>(&mut self, readers: [Read; N]) -> [f64; N] {
-        let turns = 6_000usize.div_ceil(self.entries);
-        best_of(3_000, readers.map(|_| turns), |which| {
-            self.call(readers[which]);
-        })
+    /// How many calls make a round that is long enough to be timed.
+    pub fn turns(&self) -> usize {
+        6_000usize.div_ceil(self.entries)
     }
 }
 

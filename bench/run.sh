@@ -1,7 +1,7 @@
 #!/usr/bin/env bash
-# Times the proved check and the proved reader beside others, in one run: both written in Rust, the reader's own source compiled by rustc, Rust by hand
-# with no description, and GNU poke, Python's construct and a parser made by binpac, where they are installed. 'run.sh instructions' counts the
-# instructions of the readers instead, with valgrind.
+# Times the proved check, reader and writer beside others, in one run: all three written in Rust, the reader's and the writer's own source compiled by
+# rustc, and beside the reader Rust by hand with no description, and GNU poke, Python's construct and a parser made by binpac, where they are
+# installed. 'run.sh instructions' counts the instructions of the readers and writers instead, with valgrind.
 set -euo pipefail
 cd "$(dirname "${BASH_SOURCE[0]}")/.."
 
@@ -25,7 +25,7 @@ as_rust() { # CRATE
             -e 's/std::num::wrapping_(add|sub)_u32\((\w+), (\w+)\)/\2.wrapping_\1(\3)/g' \
             -e 's/^(pub )?(struct|enum) /#[derive(Clone, Copy)]\n&/' \
             -e "s/\bcrate::/crate::same::$1::/g" \
-            -e 's/(^|[^:[:alnum:]_])(bits|description)::/\1crate::same::\2::/g' \
+            -e 's/(^|[^:[:alnum:]_])(bits|description|writing)::/\1crate::same::\2::/g' \
             "$file" >"$out/same/$1/${name/#lib/mod}.rs"
     done
 }
@@ -38,13 +38,26 @@ build() {
         fail "'rt staticlib host' failed"
     }
     local crate program
-    for crate in bits description reader; do
+    for crate in bits description reader writing writer; do
         as_rust "$crate"
     done
+    align_library
+    # Where rustc compiles a program in several units, the reader's source has 260 or 306 instructions an entry, by which functions fall into one.
+    local flags=(-C opt-level=3 -C codegen-units=1 -C llvm-args=-align-all-functions=6)
     for program in "$@"; do
-        # A loop of the reader in Rust takes a tenth longer where its function happens to be linked 16 bytes off a multiple of 32.
-        rustc --edition 2021 -C opt-level=3 -C llvm-args=-align-all-functions=6 -L target/staticlib -o "$out/$program" "bench/$program.rs"
+        rustc --edition 2021 "${flags[@]}" -L "$out/aligned" -o "$out/$program" "bench/$program.rs"
     done
+}
+
+# A loop takes a tenth longer where its function happens to be linked 16 or 32 bytes off a multiple of 64. So every function of the library begins at
+# one, as those in Rust do.
+align_library() {
+    local section sections=()
+    mkdir -p "$out/aligned"
+    while read -r section; do
+        sections+=(--set-section-alignment "$section=64")
+    done < <(objdump -h target/staticlib/libhost.a | awk '$2 ~ /^\.text\./ { print $2 }')
+    objcopy "${sections[@]}" target/staticlib/libhost.a "$out/aligned/libhost.a"
 }
 
 # The peers, a line for each: its name, how many times over it reads the export, and its command, which is empty where it is not installed.
@@ -80,35 +93,39 @@ list_binpac() {
     printf '(e) a parser by binpac %s\t10000\t%s\n' "$(dpkg-query -W -f '${Version}' binpac)" "$made/intervals"
 }
 
-# The instructions of so many calls of one of the readers, and of the program around them.
-counted() { # proved|same|rust BYTES TIMES
+# The instructions of so many calls of one of the readers or writers, and of the program around them.
+counted() { # read|write proved|same|rust BYTES TIMES
     # Without the setting, memset clears a table by one instruction that valgrind counts once for each byte.
     GLIBC_TUNABLES=glibc.cpu.x86_rep_stosb_threshold=1073741824 \
-        valgrind --tool=callgrind --callgrind-out-file=/dev/null "$out/read" calls "$@" 2>&1 >"$out/entries" | awk '/Collected/ { print $4 }'
+        valgrind --tool=callgrind --callgrind-out-file=/dev/null "$out/$1" calls "${@:2}" 2>&1 >"$out/entries" | awk '/Collected/ { print $4 }'
 }
 
-instructions() {
-    command -v valgrind >/dev/null || fail "valgrind is not on the PATH: instructions cannot be counted"
-    build read
-    printf '%11s  %7s  %6s  %21s\n' 'input bytes' entries '' 'instructions an entry'
+instructions() { # read|write BYTES...
+    printf '%5s  %5s  %7s  %6s  %21s\n' '' bytes entries '' 'instructions an entry'
     local bytes which once more
-    for bytes in 80 800 8191; do
+    for bytes in "${@:2}"; do
         for which in proved same rust; do
-            once=$(counted "$which" "$bytes" 1)
-            more=$(counted "$which" "$bytes" 11)
-            awk -v bytes="$bytes" -v which="$which" -v calls="$((more - once))" \
-                '{ printf "%11d  %7d  %6s  %21.1f\n", bytes, $1, which, calls / 10 / $1 }' "$out/entries"
+            once=$(counted "$1" "$which" "$bytes" 1)
+            more=$(counted "$1" "$which" "$bytes" 11)
+            awk -v program="$1" -v bytes="$bytes" -v which="$which" -v calls="$((more - once))" \
+                '{ printf "%5s  %5d  %7d  %6s  %21.1f\n", program, bytes, $1, which, calls / 10 / $1 }' "$out/entries"
         done
     done
 }
 
 case ${1-} in
 '')
-    build check read
+    build check read write
     "$out/check"
     list_peers >"$out/peers.list"
     "$out/read" "$out/export" "$out/peers.list"
+    "$out/write"
     ;;
-instructions) instructions ;;
+instructions)
+    command -v valgrind >/dev/null || fail "valgrind is not on the PATH: instructions cannot be counted"
+    build read write
+    instructions read 80 800 8191
+    instructions write 80 800 8188
+    ;;
 *) fail "use: run.sh, or: run.sh instructions" ;;
 esac

@@ -1,9 +1,9 @@
-/* Rippleshrug's check of record descriptions and its reader, for hosts in C (from C99 on) and C++.
+/* Rippleshrug's check of record descriptions, its reader and its writer, for hosts in C (from C99 on) and C++.
  *
- * Link with libhost.a, which `rt staticlib host` writes to target/staticlib/. Both are proved to give document 01's answer for every description,
- * input and pair of tables. They allocate nothing, keep nothing between calls, own nothing that they are handed, and may be called from several
- * threads at once where no two of them are lent the same table. A thread that reads wants 64 KiB of stack: the deepest description takes a third
- * of it. */
+ * Link with libhost.a, which `rt staticlib host` writes to target/staticlib/. The check and the reader are proved to give document 01's answer for
+ * every description, input and pair of tables, and the writer request 2's for every description, value table, count and buffer. They allocate
+ * nothing, keep nothing between calls, own nothing that they are handed, and may be called from several threads at once where no two of them are
+ * lent the same table or buffer to write to. A thread that reads wants 64 KiB of stack: the deepest description takes a third of it. */
 #ifndef RIPPLESHRUG_H
 #define RIPPLESHRUG_H
 
@@ -14,8 +14,9 @@
 extern "C" {
 #endif
 
-/* Why a description or a call is refused, by document 01's number. Of several reasons the first in this order is given: 1; then, node by node from
- * the front, 4, 2, 3, 5, 6, 7, 8; then 9 to 13. "That node" is the one at which the reason was found; nodes are numbered from 0. */
+/* Why a description or a call is refused, by document 01's number or request 2's. Of several reasons the first in this order is given: 1; then, node
+ * by node from the front, 4, 2, 3, 5, 6, 7, 8; then 9 to 11, which are all that the check has; then 12 and 13 where it is the reader that was called,
+ * and 14 to 16 where it is the writer. "That node" is the one at which the reason was found; nodes are numbered from 0. */
 enum rippleshrug_refusal {
     /* The description is accepted. Node 0. */
     RIPPLESHRUG_ACCEPTED = 0,
@@ -44,7 +45,14 @@ enum rippleshrug_refusal {
     /* Of the reader alone, after 1 to 11: the input has more than 8,191 bytes. Node 0. */
     RIPPLESHRUG_INPUT_TOO_LONG = 12,
     /* Of the reader alone, last: the entries outnumber the room of the tables. Node 0. */
-    RIPPLESHRUG_NO_ROOM = 13
+    RIPPLESHRUG_NO_ROOM = 13,
+    /* Of the writer alone, after 1 to 11: the description has a both, an absorb or a scan, whatever the table is. Node 0. */
+    RIPPLESHRUG_NOT_WRITABLE = 14,
+    /* Of the writer alone: the count is more than the table holds, a node number is not in the description, or a number to write is not one of its
+     * width: of bits, 0 to 2^w - 1; of signed, -2^(w - 1) to 2^(w - 1) - 1, as two's complement of 32 bits. Node 0. */
+    RIPPLESHRUG_WRONG_TABLE = 15,
+    /* Of the writer alone, last: the bytes exceed the buffer or 8,191. Node 0. */
+    RIPPLESHRUG_NO_SPACE = 16
 };
 
 /* The same in words, for a message. */
@@ -64,6 +72,10 @@ static inline const char *rippleshrug_reason(enum rippleshrug_refusal refusal) {
     case RIPPLESHRUG_TOO_MANY_BINDS: return "more than 31 binds around one node";
     case RIPPLESHRUG_INPUT_TOO_LONG: return "input over 8,191 bytes";
     case RIPPLESHRUG_NO_ROOM: return "entries outnumber the room of the tables";
+    case RIPPLESHRUG_NOT_WRITABLE: return "the description has both, absorb or scan";
+    case RIPPLESHRUG_WRONG_TABLE:
+        return "the count is more than the table holds, a node number is not in the description, or a number is not one of its width";
+    case RIPPLESHRUG_NO_SPACE: return "the bytes exceed the buffer or 8,191";
     }
     return "a refusal that is not known";
 }
@@ -112,6 +124,37 @@ static inline struct rippleshrug_answer rippleshrug_read(const uint8_t *desc, si
     return rippleshrug_read_slices(desc == NULL ? &none : desc, desc == NULL ? 0 : desc_length, input == NULL ? &none : input,
         input == NULL ? 0 : input_length, values == NULL ? &no_values : values, values == NULL ? 0 : values_length,
         descriptors == NULL ? &no_descriptors : descriptors, descriptors == NULL ? 0 : descriptors_length);
+}
+
+/* What a call of the writer answers. A success has refusal 0, which is RIPPLESHRUG_ACCEPTED, and node 0; a refusal has bits 0. */
+struct rippleshrug_written {
+    uint32_t refusal; /* an enum rippleshrug_refusal */
+    uint32_t node;    /* the node that is given with the refusal */
+    uint32_t bits;    /* how many bits were written, the padding not counted */
+};
+
+/* The writer as it is proved. It writes the numbers of the first `count` entries of a value table that are of a bits or signed node, in entry order,
+ * each in its node's width, the highest bit first, and pads the last byte with zero bits. For a table that the reader left, where the root has zero
+ * errors, and with the reader's count, these are the input's bits from 0 to the reader's end. A count of 0 writes nothing, and is no refusal.
+ *
+ * `desc`, `values` and `buffer` point to as many bytes or words as the length after each says, and none is null, even where its length is 0. Nothing
+ * writes the first two meanwhile; nothing else reads or writes the buffer, which overlaps neither. Whatever stood in the buffer, every byte of it is
+ * written: the bits and their padding, and 0 after them; or 0 throughout, where the call is refused.
+ *
+ * The table holds as many entries as it has words, divided by 4 and rounded down; they may be more than the reader ever gives. What is written and
+ * what is refused depends on the node words of the first `count` entries and on the number words of those that are bits or signed, and on no other
+ * word: a number that was put there by hand is written as one that was read is. The reader's number of an entry that failed is 0: zero bits. */
+struct rippleshrug_written rippleshrug_write_slices(const uint8_t *desc, size_t desc_length, const uint32_t *values, size_t values_length,
+    size_t count, uint8_t *buffer, size_t buffer_length);
+
+/* The same, which takes a null pointer for nothing: the empty description, a table or a buffer of no length, whatever the length beside it. */
+static inline struct rippleshrug_written rippleshrug_write(const uint8_t *desc, size_t desc_length, const uint32_t *values, size_t values_length,
+    size_t count, uint8_t *buffer, size_t buffer_length) {
+    static const uint8_t none = 0;
+    static const uint32_t no_values = 0;
+    uint8_t no_buffer = 0;
+    return rippleshrug_write_slices(desc == NULL ? &none : desc, desc == NULL ? 0 : desc_length, values == NULL ? &no_values : values,
+        values == NULL ? 0 : values_length, count, buffer == NULL ? &no_buffer : buffer, buffer == NULL ? 0 : buffer_length);
 }
 
 /* An entry's code. */

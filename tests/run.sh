@@ -1,5 +1,5 @@
 #!/usr/bin/env bash
-# Compares the compiled reader with an independent one, written from document 01.
+# Compares the compiled reader with an independent one, written from document 01, and the compiled writer with one from request 2 of document 02.
 #
 #     bash tests/run.sh [CASES [SEED]]   so many cases from a seed; 200,000 and 1 if nothing else is said
 #     bash tests/run.sh memory           6,000 cases under valgrind, over blocks of just the size that is lent

@@ -14,7 +14,7 @@ struct Fault {
 
 const FAULTS: [Fault; 7] = [
     Fault { name: "one error less in the last entry that has one", change: |o| change_last(&mut o.descriptors, 3, |e| e > 0, |e| e - 1) },
-    Fault { name: "a number one too large", change: |o| change_last(&mut o.values, 1, |n| n > 0, |n| n + 1) },
+    Fault { name: "a number one too large", change: |o| change_last(&mut o.values, 1, |n| n > 0 && n < u32::MAX, |n| n + 1) },
     Fault { name: "an end one bit further", change: |o| change_last(&mut o.descriptors, 1, |end| end > 0, |end| end + 1) },
     Fault { name: "a size that leaves the entry itself out", change: |o| change_last(&mut o.values, 3, |size| size > 1, |size| size - 1) },
     Fault { name: "a word after the last entry left as it was", change: |o| word_after(o) },

@@ -36,6 +36,13 @@ pub fn cut_everywhere() -> Vec<Case> {
     cases
 }
 
+/// A sequence of bytes over as many as an input may have: it is written back in the most bytes that can be written.
+pub fn longest() -> Case {
+    let desc = vec![0x02, 0x08, 0x00, 0x01, 0x09, 0x00, 0x01, 0x02, 0x00, 0xFF, 0xFF, 0xFF, 0xFF];
+    let input: Vec<u8> = (0..8191u32).map(|i| (i * i) as u8).collect();
+    Case { desc, input, value_words: 65_530, descriptor_words: 65_530, rubbish: 0x0BAD_CAFE }
+}
+
 fn description(random: &mut Random) -> Vec<u8> {
     match random.below(40) {
         0 => (0..random.below(1100)).map(|_| random.byte() % 14).collect(),

@@ -3,6 +3,10 @@
 use crate::description::{check, Node};
 use crate::generate::Case;
 use crate::reading::Outcome;
+use crate::round_trip::Trip;
+use crate::tables::Table;
+use crate::writer_reached;
+use crate::writing::{Written, MOST_WRITTEN};
 use std::collections::BTreeMap;
 
 const KINDS: [&str; 13] =
@@ -30,6 +34,16 @@ const SHAPES: [&str; 6] = [
     "no words at all",
     "room for all entries and none more",
 ];
+const TRIPS: [&str; 8] = [
+    "a round trip",
+    "a round trip of no bits",
+    "a round trip of several numbers",
+    "a round trip that ends inside a byte",
+    "a round trip that ends before the input",
+    "a round trip of 8,191 bytes",
+    "a round trip with one number of bits replaced",
+    "a round trip with one signed number replaced",
+];
 
 #[derive(Default)]
 pub struct Reached(BTreeMap<String, u64>);
@@ -47,6 +61,9 @@ impl Reached {
         }
         for name in DETAILS.iter().chain(&SHAPES) {
             reached.0.insert(name.to_string(), 0);
+        }
+        for name in writer_reached::names().chain(TRIPS) {
+            reached.0.insert(format!("writer: {name}"), 0);
         }
         reached
     }
@@ -97,6 +114,29 @@ impl Reached {
         ];
         for (name, _) in SHAPES.iter().zip(shapes).filter(|(_, is)| *is) {
             self.count(name.to_string());
+        }
+    }
+
+    pub fn table(&mut self, table: &Table, written: &Written) {
+        for name in writer_reached::of(table, written) {
+            self.count(format!("writer: {name}"));
+        }
+    }
+
+    pub fn trip(&mut self, case: &Case, trip: &Trip) {
+        let (bits, whole) = (trip.wanted.bits as usize, trip.replaced.is_none());
+        let trips = [
+            whole && bits > 0,
+            whole && bits == 0,
+            whole && trip.numbers > 1,
+            whole && bits % 8 > 0,
+            whole && bits < 8 * case.input.len(),
+            whole && bits == 8 * MOST_WRITTEN,
+            trip.replaced.is_some_and(|field| !field.signed),
+            trip.replaced.is_some_and(|field| field.signed),
+        ];
+        for (name, _) in TRIPS.iter().zip(trips).filter(|(_, is)| *is) {
+            self.count(format!("writer: {name}"));
         }
     }
 

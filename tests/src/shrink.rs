@@ -1,49 +1,108 @@
-//! A failing case made smaller while it still fails: less input, shorter tables, a shorter or simpler description.
+//! A failing case or table made smaller while it still fails: less input, shorter tables, a shorter or simpler description.
 
 use crate::generate::Case;
+use crate::tables::Table;
 
-pub fn shrink(case: &Case, fails: &dyn Fn(&Case) -> bool) -> Case {
-    let mut best = case.clone();
-    while let Some(smaller) = candidates(&best).into_iter().find(|candidate| fails(candidate)) {
+/// What can be made smaller.
+pub trait Smaller: Clone {
+    /// Smaller ones, the much smaller ones first, in an order in which no one can come back.
+    fn smaller(&self) -> Vec<Self>;
+
+    fn with(&self, change: &dyn Fn(&mut Self)) -> Self {
+        let mut smaller = self.clone();
+        change(&mut smaller);
+        smaller
+    }
+}
+
+pub fn shrink<T: Smaller>(first: &T, fails: &dyn Fn(&T) -> bool) -> T {
+    let mut best = first.clone();
+    while let Some(smaller) = best.smaller().into_iter().find(|candidate| fails(candidate)) {
         best = smaller;
     }
     best
 }
 
-/// Smaller cases, the much smaller ones first. Each is smaller by the description's bytes, the input's, the tables' words, or the sum of all bytes.
-fn candidates(case: &Case) -> Vec<Case> {
-    let mut all = Vec::new();
-    let with = |change: &dyn Fn(&mut Case)| {
-        let mut smaller = case.clone();
-        change(&mut smaller);
-        smaller
-    };
-    for length in lengths(case.input.len()) {
-        all.push(with(&|c| c.input.truncate(length)));
-    }
-    for length in lengths(case.desc.len()) {
-        all.push(with(&|c| c.desc.truncate(length)));
-        all.push(with(&|c| {
-            c.desc.drain(..case.desc.len() - length);
-        }));
-    }
-    for words in lengths(case.value_words) {
-        all.push(with(&|c| c.value_words = words));
-    }
-    for words in lengths(case.descriptor_words) {
-        all.push(with(&|c| c.descriptor_words = words));
-    }
-    for at in 0..case.desc.len() {
-        all.push(with(&|c| {
-            c.desc.remove(at);
-        }));
-        if case.desc[at] > 0 {
-            all.push(with(&|c| c.desc[at] = 0));
-            all.push(with(&|c| c.desc[at] -= 1));
+impl Smaller for Case {
+    /// Each is smaller by the description's bytes, the input's, the tables' words, or the sum of all bytes.
+    fn smaller(&self) -> Vec<Case> {
+        let mut all = Vec::new();
+        for length in lengths(self.input.len()) {
+            all.push(self.with(&|c| c.input.truncate(length)));
         }
+        all.extend(shorter(&self.desc).into_iter().map(|desc| Case { desc, ..self.clone() }));
+        for words in lengths(self.value_words) {
+            all.push(self.with(&|c| c.value_words = words));
+        }
+        for words in lengths(self.descriptor_words) {
+            all.push(self.with(&|c| c.descriptor_words = words));
+        }
+        all.extend(simpler(&self.desc).into_iter().map(|desc| Case { desc, ..self.clone() }));
+        for at in (0..self.input.len()).filter(|&at| self.input[at] > 0) {
+            all.push(self.with(&|c| c.input[at] = 0));
+        }
+        all
     }
-    for at in (0..case.input.len()).filter(|&at| case.input[at] > 0) {
-        all.push(with(&|c| c.input[at] = 0));
+}
+
+impl Smaller for Table {
+    /// Each is smaller by the description's bytes, the table's words, the count, the buffer, or the sum of all bytes and words. Single words are taken
+    /// out or made 0 where there are few of them.
+    fn smaller(&self) -> Vec<Table> {
+        let mut all = Vec::new();
+        for words in lengths(self.values.len()) {
+            all.push(self.with(&|t| t.values.truncate(words)));
+            all.push(self.with(&|t| {
+                t.values.truncate(words);
+                t.count = t.count.min(words / 4);
+            }));
+        }
+        let entries = self.values.len() / 4;
+        for gone in lengths(entries).into_iter().map(|kept| entries - kept) {
+            all.push(self.with(&|t| {
+                t.values.drain(..4 * gone);
+                t.count = t.count.saturating_sub(gone);
+            }));
+        }
+        for count in lengths(self.count) {
+            all.push(self.with(&|t| t.count = count));
+        }
+        for room in lengths(self.room) {
+            all.push(self.with(&|t| t.room = room));
+        }
+        let descriptions = shorter(&self.desc).into_iter().chain(simpler(&self.desc));
+        all.extend(descriptions.map(|desc| Table { desc, ..self.clone() }));
+        if self.values.len() > 256 {
+            return all;
+        }
+        for entry in 0..entries {
+            all.push(self.with(&|t| {
+                t.values.drain(4 * entry..4 * entry + 4);
+                t.count = t.count.saturating_sub(1);
+            }));
+        }
+        for at in (0..self.values.len()).filter(|&at| self.values[at] > 0) {
+            all.push(self.with(&|t| t.values[at] = 0));
+        }
+        all
+    }
+}
+
+/// Fronts and backs of a description.
+fn shorter(desc: &[u8]) -> Vec<Vec<u8>> {
+    lengths(desc.len()).into_iter().flat_map(|length| [desc[..length].to_vec(), desc[desc.len() - length..].to_vec()]).collect()
+}
+
+/// A description with one byte left out, or less.
+fn simpler(desc: &[u8]) -> Vec<Vec<u8>> {
+    let mut all = Vec::new();
+    for (at, &byte) in desc.iter().enumerate() {
+        let with = |bytes: &[u8]| [&desc[..at], bytes, &desc[at + 1..]].concat();
+        all.push(with(&[]));
+        if byte > 0 {
+            all.push(with(&[0]));
+            all.push(with(&[byte - 1]));
+        }
     }
     all
 }

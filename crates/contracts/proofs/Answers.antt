@@ -10,6 +10,7 @@ use Rattle.description.specs.Nodes.{Operand, constant, bound}
 use Rattle.description.specs.Places.{meant}
 use Rattle.description.specs.declared.places.Operand as answers
 use Rattle.description.specs.declared.places.Operand.the-variants.{Constant, Bound}
+use Rattle.writing.specs.Outcome.{Outcome, given}
 use Rattle.bits.proofs.unsigned.Kinds as unsigned-kinds
 use Rattle.bits.proofs.unsigned.Reads as unsigned
 use Rattle.bits.proofs.signed.Kinds as signed-kinds
@@ -38,10 +39,14 @@ use Rattle.description.proofs.places.operand_of.Kinds as operand-of-kinds
 use Rattle.description.proofs.places.operand_of.Reads as operand-of
 use Rattle.reader.proofs.read.Kinds as read-kinds
 use Rattle.reader.proofs.read.Reads as read
+use Rattle.writer.proofs.write.Kinds as write-kinds
+use Rattle.writer.proofs.write.Reads as write
 use Rattle.host.proofs.rippleshrug_check_slice.Kinds as check-slice-kinds
 use Rattle.host.proofs.rippleshrug_check_slice.Reads as check-slice
 use Rattle.host.proofs.rippleshrug_read_slices.Kinds as read-slices-kinds
 use Rattle.host.proofs.rippleshrug_read_slices.Reads as read-slices
+use Rattle.host.proofs.rippleshrug_write_slices.Kinds as write-slices-kinds
+use Rattle.host.proofs.rippleshrug_write_slices.Reads as write-slices
 use Rattle.text.proofs.list.Kinds as list-kinds
 use Rattle.text.proofs.list.Reads as list
 use Rattle.text.proofs.call.Kinds as call-kinds
@@ -124,6 +129,15 @@ read-values κs a x y s t e f = same-given x y _ _ _ _ (e ∙ sym f) .1
 pub read-descriptors : OneBuffer 4 read-kinds.ps read-kinds.r read.Learnt (λ κs s. s .1 .1 .1 .0 .now)
 read-descriptors κs a x y s t e f = same-given x y _ _ _ _ (e ∙ sym f) .2
 
+-- writer
+pub write-answer : OneAnswer 3 write-kinds.ps write-kinds.r write.Learnt
+unfolding given
+write-answer κs a x y s t e f = ap (λ (o : Outcome). o .answer) (e ∙ sym f)
+
+pub write-buffer : OneBuffer 3 write-kinds.ps write-kinds.r write.Learnt (λ κs s. s .1 .1 .1 .0 .now)
+unfolding given
+write-buffer κs a x y s t e f = ap (λ (o : Outcome). o .buffer) (e ∙ sym f)
+
 -- host
 pub check-slice-answer : OneAnswer 1 check-slice-kinds.ps check-slice-kinds.r check-slice.Learnt
 check-slice-answer κs a x y s t e f = e ∙ sym f
@@ -136,6 +150,12 @@ read-slices-values κs a x y s t e f = e .values ∙ sym (f .values)
 
 pub read-slices-descriptors : OneBuffer 4 read-slices-kinds.ps read-slices-kinds.r read-slices.Learnt (λ κs s. s .1 .1 .1 .0 .now)
 read-slices-descriptors κs a x y s t e f = e .descriptors ∙ sym (f .descriptors)
+
+pub write-slices-answer : OneAnswer 3 write-slices-kinds.ps write-slices-kinds.r write-slices.Learnt
+write-slices-answer κs a x y s t e f = e .numbers ∙ sym (f .numbers)
+
+pub write-slices-buffer : OneBuffer 3 write-slices-kinds.ps write-slices-kinds.r write-slices.Learnt (λ κs s. s .1 .1 .1 .0 .now)
+write-slices-buffer κs a x y s t e f = e .buffer ∙ sym (f .buffer)
 
 -- text
 pub list-answer : OneAnswer 2 list-kinds.ps list-kinds.r list.Learnt

@@ -1,12 +1,13 @@
 -- Calls that the reader's contract allows, and that meet the hypotheses of what is shown of callers and of wrong readers.
-use Prim.Native.Nat.{_≤_, _<_}
+use Prim.Native.Nat.{ℕ, _≤_, _<_}
+use mathlib.Core.Bool.{false}
 use mathlib.Core.List.{[], _∷_}
 use mathlib.Core.Logic.{_⊎_}
 use mathlib.Core.Path.{_≡_, refl}
 use lib.Dec.{lit≤}
 use lib.IntN.{negsuc}
 use lib.ListN.{length}
-use Rattle.bits.specs.Bits.{total}
+use Rattle.bits.specs.Bits.{total, bit}
 use Rattle.description.specs.Check.{accepted, meaning}
 use Rattle.description.specs.Nodes.{constant}
 use Rattle.description.specs.Trees.{Tree, unit, bottom, bits, sequence}
@@ -19,9 +20,15 @@ use Rattle.promises.specs.Places.{ZeroErrorsFit, FitsZeroErrors}
 use Rattle.promises.specs.Spans.{Spans}
 use Rattle.promises.specs.Table.{entryAt}
 use Rattle.promises.proofs.Cases.{counters, turned, counters-tree, counters-mean, cut}
+use Rattle.writing.specs.Fields.{fieldsOf, someUnwritable}
+use Rattle.writing.specs.Outcome as writing
+use Rattle.writing.specs.Outcome.{given as written}
+use Rattle.writing.specs.declared.Answer.the-variants.{Bits}
+use Rattle.writing.proofs.Evaluate.{evaluated as evaluating}
 use Rattle.reader.specs.Answers.{said, given}
 use Rattle.reader.specs.declared.Answer.the-variants.{Success, NoRoom}
 use Rattle.contracts.proofs.Callers.{caller-unstuck, caller-spans, caller-fits, caller-clean, caller-missing}
+use Rattle.contracts.proofs.Returns.{caller-returned}
 use Rattle.contracts.proofs.WrongReaders.{elements, entry-count, element-count}
 
 -- case A's call
@@ -49,6 +56,25 @@ turned-clean = caller-clean 20 20 counters turned 5 32 (o .values) (o .descripto
 
 turned-count : 5 ≡ length (read turned counters-tree [] 0 .entries)
 turned-count = entry-count 20 20 counters turned 5 32 (o .values) (o .descriptors) turned-call counters-tree counters-mean
+
+-- case A's table, written back into four bytes
+turned-written : written (Bits 32) turned ≡ writing.outcome 4 counters (o .values) 5
+unfolding evaluating written
+turned-written = refl
+
+turned-clean-root : entryAt (o .values) (o .descriptors) 0 .errors ≡ 0
+unfolding evaluated entryAt
+turned-clean-root = refl
+
+counters-writable : someUnwritable (fieldsOf counters) ≡ false
+unfolding evaluating
+counters-writable = refl
+
+turned-returned : (Bits 32 ≡ Bits 32) × ((k : ℕ) → k < 32 → bit turned k ≡ bit turned k)
+unfolding evaluating
+turned-returned =
+    caller-returned 20 20 counters turned 5 32 (o .values) (o .descriptors) turned-call turned-clean-root counters-writable 4 (lit≤ tt) (Bits 32) turned
+    turned-written
 
 -- case A over FF FA 00
 abbrev short : Outcome

@@ -3,4 +3,5 @@ pub mod Determined
 pub mod Answers
 pub mod Callers
 pub mod WrongReaders
+pub mod Returns
 pub mod Cases

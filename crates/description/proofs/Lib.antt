@@ -7,7 +7,7 @@ mod Rows
 mod Firsts
 pub mod Refusing
 pub mod Marking
-mod Numbered
+pub mod Numbered
 mod Parsing
 pub mod Trees
 mod Walking

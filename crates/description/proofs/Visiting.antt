@@ -154,16 +154,23 @@ module _ (d starts : List ℕ) (node : ℕ) (p : Placed d starts node) where
   listed-as : (kind : ℕ) → kindOf d node ≡ kind → rowOf kind .listed d (start d node + 1) ≡ true
   listed-as kind e = subst (λ (k : ℕ). rowOf k .listed d (start d node + 1) ≡ true) e (listed-here d starts node p)
 
+  range : (1 ≤ byte d (start d node + 1)) × (byte d (start d node + 1) ≤ 32) → (1 ≤ fieldOf d node 0) × (fieldOf d node 0 ≤ 32)
+  unfolding fieldOf
+  range h = rw (add-zero (start d node + 1)) h
+
+  pub number-range : (kind : ℕ) → kindOf d node ≡ kind → 2 ≤ kind → kind < 4 → (1 ≤ fieldOf d node 0) × (fieldOf d node 0 ≤ 32)
+  unfolding rowOf kinds
+  number-range kind e low high =
+      between (λ k. kindOf d node ≡ k → (1 ≤ fieldOf d node 0) × (fieldOf d node 0 ≤ 32)) 2 2
+      ((λ e. range (width-listed (byte d (start d node + 1)) (listed-as 2 e))), ((λ e. range (signed-listed (byte d (start d node + 1)) (listed-as 3 e))), tt))
+      kind low high e
+
+  pub number-width : (kind : ℕ) → kindOf d node ≡ kind → 2 ≤ kind → kind < 4 → fieldOf d node 0 ≤ 32
+  number-width kind e low high = number-range kind e low high .1
+
   few : byte d (start d node + 1) ≤ 32 → fieldOf d node 0 ≤ 32
   unfolding fieldOf
   few h = rw (add-zero (start d node + 1)) h
-
-  pub number-width : (kind : ℕ) → kindOf d node ≡ kind → 2 ≤ kind → kind < 4 → fieldOf d node 0 ≤ 32
-  unfolding rowOf kinds
-  number-width kind e low high =
-      between (λ k. kindOf d node ≡ k → fieldOf d node 0 ≤ 32) 2 2
-      ((λ e. few (width-listed (byte d (start d node + 1)) (listed-as 2 e) .1)), ((λ e. few (signed-listed (byte d (start d node + 1)) (listed-as 3 e) .1)), tt))
-      kind low high e
 
   pub compute-width : kindOf d node ≡ 10 → fieldOf d node 0 ≤ 32
   unfolding rowOf kinds

@@ -1,4 +1,4 @@
-// What a host calls through the static library, as host/rippleshrug.h declares it for C: the check, and a call of the reader.
+// What a host calls through the static library, as host/rippleshrug.h declares it for C: the check, a call of the reader, and one of the writer.
 use description::Verdict;
 use description::refusals;
 use reader::Answer;
@@ -6,7 +6,8 @@ ghost use mathlib.Core.Path.{_≡_};
 ghost use lib.ListN.{length};
 ghost use Rattle.reader.specs.Answers.{statedBy};
 ghost use Rattle.rules.specs.Outcome.{outcome};
-ghost use Rattle.host.specs.Answer.{answer, numbersOf, Got};
+ghost use Rattle.writing.specs.Outcome as writing;
+ghost use Rattle.host.specs.Answer.{answer, numbersOf, Got, bitsOf, Wrote};
 
 // The check of a description: the refusal plus 256 times the node, 0 where it accepts.
 #[no_mangle]
@@ -69,6 +70,59 @@ fn in_numbers(answer: Answer) -> Numbers
             node: 0,
             count: 0,
             end: 0,
+        },
+    }
+}
+
+// "the number of bits without the padding", or a refusal: the three numbers of a call of the writer, laid out as C lays out a struct.
+#[repr(C)]
+pub struct Bits {
+    pub refusal: u32,
+    pub node: u32,
+    pub bits: u32,
+}
+
+// A call of the writer: its three numbers, and every byte of the buffer, whatever stood in it.
+#[no_mangle]
+pub extern "C" fn rippleshrug_write_slices(
+    desc: &[u8],
+    values: &[u32],
+    count: usize,
+    buffer: &mut [u8],
+) -> Bits
+    ensures { λ r. ⌜ Wrote (writing.outcome (length (now (buffer .entry))) (now (desc .entry)) (now (values .entry)) count) r (now (buffer .exit)) ⌝ }
+{
+    in_bits(writer::write(desc, values, count, buffer))
+}
+
+fn in_bits(answer: writing::Answer) -> Bits
+    ensures { λ r. ⌜ r ≡ bitsOf (writing.stated answer) ⌝ }
+{
+    match answer {
+        writing::Answer::Bits(bits) => Bits {
+            refusal: 0,
+            node: 0,
+            bits: bits,
+        },
+        writing::Answer::BadDescription(r) => Bits {
+            refusal: refusals::number(r) as u32,
+            node: refusals::node(r) as u32,
+            bits: 0,
+        },
+        writing::Answer::NotWritable => Bits {
+            refusal: 14,
+            node: 0,
+            bits: 0,
+        },
+        writing::Answer::WrongTable => Bits {
+            refusal: 15,
+            node: 0,
+            bits: 0,
+        },
+        writing::Answer::NoSpace => Bits {
+            refusal: 16,
+            node: 0,
+            bits: 0,
         },
     }
 }

@@ -1,0 +1,20 @@
+-- The laws of the definitions in specs/, the round trip, and the cases that are computed.
+pub mod Widths
+pub mod Nodes
+pub mod Outcomes
+pub mod Rows
+pub mod PackedBits
+pub mod Fielded
+pub mod FieldedNodes
+pub mod Listed
+pub mod Tiling
+pub mod TiledRounds
+pub mod TiledReading
+pub mod Stored
+pub mod Written
+pub mod RoundTrip
+pub mod Spliced
+pub mod Replacing
+pub mod Replaced
+pub mod Evaluate
+pub mod Cases

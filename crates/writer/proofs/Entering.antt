@@ -8,29 +8,22 @@ use native.Mathlib.Numerals.{add-one}
 use native.Mathlib.Omega.{arith}
 use lib.ListN.{length}
 use borrow.Author.Tests.{lt-ltb, le-ltb}
-use Rattle.writing.specs.Bits.{inWidth, fieldBits, ofWidth}
+use Rattle.writing.specs.Bits.{widthOf, inWidth, fieldBits, ofWidth}
 use Rattle.writing.specs.Entries.{nodeAt, numberAt, fieldAt, isWrong, someWrong, bitsFrom}
 use Rattle.writing.specs.Outcome.{Outcome, given, refusing, writing}
 use Rattle.writing.specs.declared.Answer.the-variants.{WrongTable}
 use Rattle.writing.specs.declared.Field.{Field}
 use Rattle.writing.specs.declared.Field.the-variants.{Nothing, Bits, Signed, Unwritable}
 use Rattle.writer.specs.Inner.Entries.{entered}
-use Rattle.writer.specs.Inner.Tables.{widthOf, Listed}
+use Rattle.writer.specs.Inner.Tables.{Listed}
 
--- a field of no bits asks nothing and is written as nothing; any other is written in its width
+-- a field of no bits asks nothing
 none-right : (f : Field) (n : ℕ) → Listed f → widthOf f ≡ 0 → ofWidth f n ≡ true
-unfolding widthOf ofWidth
+unfolding ofWidth
 none-right Nothing n l e = refl
 none-right (Bits w) n l e = absurd (omega (arith, l .0))
 none-right (Signed w) n l e = absurd (omega (arith, l .0))
 none-right Unwritable n l e = refl
-
-pub field-bits : (f : Field) (n : ℕ) → fieldBits f n ≡ inWidth (widthOf f) n
-unfolding widthOf fieldBits inWidth
-field-bits Nothing n = refl
-field-bits (Bits w) n = refl
-field-bits (Signed w) n = refl
-field-bits Unwritable n = refl
 
 module _ (values : List ℕ) (fields : List Field) where
   -- entry i, by its node and its number
@@ -73,11 +66,11 @@ module _ (values : List ℕ) (fields : List Field) where
       ∙ ap (λ (k : ℕ). (first ++ bitsFrom values fields (suc j) m) ++ fieldBits (fieldAt values fields k) (numberAt values k)) same
 
   pub bits-more : (i : ℕ) → bitsFrom values fields 0 (i + 1) ≡ bitsFrom values fields 0 i ++ inWidth (widthOf (fieldAt values fields i)) (numberAt values i)
+  unfolding fieldBits
   bits-more i =
       ap (bitsFrom values fields 0) (add-one i)
       ∙ bits-snoc 0 i
       ∙ ap (λ (k : ℕ). bitsFrom values fields 0 i ++ fieldBits (fieldAt values fields k) (numberAt values k)) (zero-add i)
-      ∙ ap (λ (l : List ℕ). bitsFrom values fields 0 i ++ l) (field-bits (fieldAt values fields i) (numberAt values i))
 
   -- what the call is then
   pub entered-wrong : (n count : ℕ) (after : List ℕ) → someWrong values fields 0 count ≡ true → given WrongTable after ≡ refusing n WrongTable

@@ -15,7 +15,8 @@ use Rattle.description.proofs.Numbered.{grown-length, grown-at}
 use Rattle.writing.specs.Fields.{fieldOf, isUnwritable, someUnwritable}
 use Rattle.writing.specs.declared.Field.{Field}
 use Rattle.writing.specs.declared.Field.the-variants.{Nothing, Bits, Signed, Unwritable}
-use Rattle.writer.specs.Inner.Tables.{nodeField, fieldsTo, widthOf, Listed, Looked, Tabled}
+use Rattle.writing.specs.Bits.{widthOf}
+use Rattle.writer.specs.Inner.Tables.{nodeField, fieldsTo, Listed, Looked, Tabled}
 
 or-false : (a : Bool) → a || false ≡ a
 or-false true = refl
@@ -81,7 +82,6 @@ module _ (d : List ℕ) where
 
 -- A field that is listed has no more bits than a word.
 pub narrow-field : (f : Field) → Listed f → widthOf f ≤ 32
-unfolding widthOf
 narrow-field Nothing l = omega arith
 narrow-field (Bits w) l = l .1
 narrow-field (Signed w) l = l .1

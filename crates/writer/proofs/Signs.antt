@@ -11,10 +11,10 @@ use lib.Pow.{pow-pos, pow-add, shr-lt, split}
 use borrow.Author.Tests.{le-ltb, lt-ltb, le-leb, lt-leb, eq-eqb, ne-eqb}
 use Rattle.bits.specs.Whole.{twosComplement, word, modulo}
 use Rattle.bits.proofs.Words.{twos-low, twos-high, sub-below}
-use Rattle.writing.specs.Bits.{ofWidth}
+use Rattle.writing.specs.Bits.{widthOf, ofWidth}
 use Rattle.writing.specs.declared.Field.{Field}
 use Rattle.writing.specs.declared.Field.the-variants.{Nothing, Bits, Signed, Unwritable}
-use Rattle.writer.specs.Inner.Tables.{widthOf, halfOf, Listed}
+use Rattle.writer.specs.Inner.Tables.{halfOf, Listed}
 
 -- a multiple is nothing, or the whole and more
 none-or-more : (k m : ℕ) → (k * m ≡ 0) ⊎ (m ≤ k * m)
@@ -95,7 +95,7 @@ wrong-bits w n below = rw itself (go (decLt n (2 ^ w)))
 
 pub wrong-field : (f : Field) (most half n : ℕ) → n < 2 ^ 32 → Listed f → 0 < widthOf f → most ≡ 2 ^ widthOf f - 1 → half ≡ halfOf f
     → ltb most ((n + half) % 2 ^ 32) ≡ not (ofWidth f n)
-unfolding widthOf halfOf ofWidth
+unfolding halfOf ofWidth
 wrong-field Nothing most half n below listed some is up = absurd (omega arith)
 wrong-field (Bits v) most half n below listed some is up = rw (is, up) (above v ((n + 0) % 2 ^ 32) ∙ wrong-bits v n below)
 wrong-field (Signed zero) most half n below listed some is up = absurd (omega arith)

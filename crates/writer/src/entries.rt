@@ -9,12 +9,12 @@ ghost use Prim.Native.Nat.{ℕ, _-_, _^_, _≤_, _<_, min};
 ghost use lib.ListN.{length, replicate};
 ghost use Rattle.rules.specs.Outcome.{mostInput};
 ghost use Rattle.writing.specs.Entries.{holds};
-ghost use Rattle.writing.specs.Bits.{ofWidth};
+ghost use Rattle.writing.specs.Bits.{widthOf, ofWidth};
 ghost use Rattle.writing.specs.Outcome.{given, writing};
 ghost use Rattle.writing.specs.declared.Field.{Field};
 ghost use Rattle.writer.specs.Inner.Entries.{entered};
 ghost use Rattle.writer.specs.Inner.Packing.{Packs, mostAt};
-ghost use Rattle.writer.specs.Inner.Tables.{widthOf, halfOf, Listed, Tabled, Narrow};
+ghost use Rattle.writer.specs.Inner.Tables.{halfOf, Listed, Tabled, Narrow};
 
 // Words to an entry.
 pub const ENTRY_WORDS: usize = 4;

@@ -11,7 +11,8 @@ ghost use Rattle.description.specs.Examine.{Readable};
 ghost use Rattle.description.specs.Limits.{mostNodes};
 ghost use Rattle.description.specs.Places.{Placed};
 ghost use Rattle.writing.specs.Fields.{isUnwritable, someUnwritable};
-ghost use Rattle.writer.specs.Inner.Tables.{nodeField, fieldsTo, widthOf, halfOf, Listed, Tabled};
+ghost use Rattle.writing.specs.Bits.{widthOf};
+ghost use Rattle.writer.specs.Inner.Tables.{nodeField, fieldsTo, halfOf, Listed, Tabled};
 
 // "14, the description has both, absorb or scan". Where it has none, the tables are filled for its n nodes.
 pub fn some_unwritable(

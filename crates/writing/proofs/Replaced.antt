@@ -10,7 +10,7 @@ use lib.Seq.{ext-getD}
 use Rattle.bits.specs.Bits.{bit, number}
 use Rattle.rules.specs.Entries.{Entry}
 use Rattle.rules.specs.Outcome as reader
-use Rattle.writing.specs.Bits.{bytesFor, inWidth, fieldBits, ofWidth}
+use Rattle.writing.specs.Bits.{widthOf, bytesFor, inWidth, fieldBits, ofWidth}
 use Rattle.writing.specs.Entries.{entryWords, holds, nodeAt, fieldAt}
 use Rattle.writing.specs.Fields.{fieldsOf, someUnwritable}
 use Rattle.writing.specs.Outcome.{outcome}
@@ -24,7 +24,7 @@ use Rattle.writing.proofs.Widths.{width-length}
 use Rattle.writing.proofs.Rows.{row, row-length, row-at, width-bits, number-of}
 use Rattle.writing.proofs.Spliced.{spliced, spliced-length, spliced-bits, spliced-before, spliced-inside, spliced-after}
 use Rattle.writing.proofs.Stored.{Stored, stored}
-use Rattle.writing.proofs.Tiling.{width, Spanned, Parted, parted, tiled-row, tiled-right}
+use Rattle.writing.proofs.Tiling.{Spanned, Parted, parted, tiled-row, tiled-right}
 use Rattle.writing.proofs.Outcomes.{written}
 use Rattle.writing.proofs.Written.{entries-written}
 use Rattle.promises.specs.Table.{entryAt}
@@ -47,9 +47,9 @@ pub record Changed (n : ℕ) (desc input values descriptors : List ℕ) (count e
   pub anew : number (outcome n desc (replaced values i m) count .buffer) (entryAt values descriptors i .begin) w ≡ m % 2 ^ w
 
 -- what a number's field is
-width-is : (f : Field) (w : ℕ) → IsNumber f w → width f ≡ w
-width-is f w (inl e) = ap width e
-width-is f w (inr e) = ap width e
+width-is : (f : Field) (w : ℕ) → IsNumber f w → widthOf f ≡ w
+width-is f w (inl e) = ap widthOf e
+width-is f w (inr e) = ap widthOf e
 
 bits-are : (f : Field) (w m : ℕ) → IsNumber f w → fieldBits f m ≡ inWidth w m
 unfolding fieldBits
@@ -117,11 +117,11 @@ module _ (n : ℕ) (desc input values descriptors : List ℕ) (count end : ℕ) 
   unfolding changed
   all-right =
       right-append fields (p .before) (x ∷ p .after) (tiled-right input fields 0 (p .begin) (p .before) (p .first))
-      (right-anew, tiled-right input fields (p .begin + width (fieldFor fields (p .entry))) end (p .after) (p .last))
+      (right-anew, tiled-right input fields (p .begin + widthOf (fieldFor fields (p .entry))) end (p .after) (p .last))
 
   -- the bits that follow it
   rest : ℕ
-  rest = tiled-row input fields (p .begin + width (fieldFor fields (p .entry))) end (p .after) (p .last) .0
+  rest = tiled-row input fields (p .begin + widthOf (fieldFor fields (p .entry))) end (p .after) (p .last) .0
 
   -- the row that is written
   line : List ℕ
@@ -130,16 +130,16 @@ module _ (n : ℕ) (desc input values descriptors : List ℕ) (count end : ℕ) 
   whole : end ≡ p .begin + w + rest
   unfolding rest
   whole =
-      let back = tiled-row input fields (p .begin + width (fieldFor fields (p .entry))) end (p .after) (p .last) in
+      let back = tiled-row input fields (p .begin + widthOf (fieldFor fields (p .entry))) end (p .after) (p .last) in
       omega (arith, back .1, width-is (fieldFor fields (p .entry)) w is-number)
 
   line-is : entryBits fields changed ≡ line
   unfolding entryBits changed line rest spliced
   line-is =
       let front = tiled-row input fields 0 (p .begin) (p .before) (p .first) in
-      let back = tiled-row input fields (p .begin + width (fieldFor fields (p .entry))) end (p .after) (p .last) in
+      let back = tiled-row input fields (p .begin + widthOf (fieldFor fields (p .entry))) end (p .after) (p .last) in
       let first : entryBits fields (p .before) ≡ row input 0 (p .begin) = front .2 ∙ ap (row input 0) (omega (arith, front .1)) in
-      let on : p .begin + width (fieldFor fields (p .entry)) ≡ p .begin + length (inWidth w m) =
+      let on : p .begin + widthOf (fieldFor fields (p .entry)) ≡ p .begin + length (inWidth w m) =
       ap (λ (k : ℕ). p .begin + k) (width-is (fieldFor fields (p .entry)) w is-number ∙ sym (width-length w m)) in
       let last : entryBits fields (p .after) ≡ row input (p .begin + length (inWidth w m)) (back .0) = back .2 ∙ ap (λ (k : ℕ). row input k (back .0)) on in
       entry-bits-append fields (p .before) (x ∷ p .after) ∙ cc (bits-anew)

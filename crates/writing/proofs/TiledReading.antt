@@ -22,14 +22,14 @@ use Rattle.rules.specs.Reading.{twoSides, readBits, doneAt, read}
 use Rattle.promises.proofs.Codes.{any-clean, sides-clean}
 use Rattle.promises.proofs.Numbers.{word-small}
 use Rattle.promises.proofs.Sound.{Sound}
-use Rattle.writing.specs.Bits.{inWidth, fieldBits, ofWidth}
+use Rattle.writing.specs.Bits.{widthOf, inWidth, fieldBits, ofWidth}
 use Rattle.writing.specs.Fields.{isUnwritable, someUnwritable}
 use Rattle.writing.specs.declared.Field.{Field}
 use Rattle.writing.specs.declared.Field.the-variants.{Nothing, Bits, Signed, Unwritable}
 use Rattle.writing.proofs.Fielded.{Own, Fielded}
 use Rattle.writing.proofs.Rows.{row, row-of}
 use Rattle.writing.proofs.TiledRounds.{CleanTiled, rounds-tiled}
-use Rattle.writing.proofs.Tiling.{width, Spanned, tiled-append, one-tile, no-tile}
+use Rattle.writing.proofs.Tiling.{Spanned, tiled-append, one-tile, no-tile}
 
 -- where no field is unwritable, no node has such a one
 none-unwritable : (fields : List Field) (n : ℕ) → someUnwritable fields ≡ false → isUnwritable (getD fields n Nothing) ≡ false
@@ -45,7 +45,7 @@ module _ (input : List ℕ) (fields : List Field) (writable : someUnwritable fie
 
   module _ (n o : ℕ) where
     -- A number of w bits that are all there, in a field that is written as them.
-    number-tiled : (f : Field) (w : ℕ) (z : ℤ) → Own fields n f → width f ≡ w → ofWidth f (word z) ≡ true → fieldBits f (word z) ≡ row input o w
+    number-tiled : (f : Field) (w : ℕ) (z : ℤ) → Own fields n f → widthOf f ≡ w → ofWidth f (word z) ≡ true → fieldBits f (word z) ≡ row input o w
         → ((e : Entry) → e .begin ≡ o → e .end ≡ o + w → Spanned f o e) → CleanTiled input fields o (readBits input n o w z)
     unfolding readBits reading
     number-tiled f w z own is fits as-read spans =

@@ -13,12 +13,16 @@ unfoldable pub inWidth : ℕ → ℕ → List ℕ
 inWidth zero n = []
 inWidth (suc w) n = n / 2 ^ w % 2 ∷ inWidth w n
 
+-- How many bits a field has, 0 where nothing of it is stored.
+abbrev pub widthOf : Field → ℕ
+widthOf Nothing = 0
+widthOf (Bits w) = w
+widthOf (Signed w) = w
+widthOf Unwritable = 0
+
 -- The bits that a number of this field is written as: "each in its width".
 unfoldable pub fieldBits : Field → ℕ → List ℕ
-fieldBits Nothing n = []
-fieldBits (Bits w) n = inWidth w n
-fieldBits (Signed w) n = inWidth w n
-fieldBits Unwritable n = []
+fieldBits f n = inWidth (widthOf f) n
 
 -- Whether a number is one of its width, "signed ones sign-extended to 32 bits". A field that is not written is asked nothing.
 unfoldable pub ofWidth : Field → ℕ → Bool

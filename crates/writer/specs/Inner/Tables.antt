@@ -5,6 +5,7 @@ use mathlib.Core.Path.{_≡_}
 use lib.ListN.{length, getD}
 use Rattle.description.specs.Check.{nodeAt}
 use Rattle.description.specs.Places.{start, nodesTo}
+use Rattle.writing.specs.Bits.{widthOf}
 use Rattle.writing.specs.Fields.{fieldOf}
 use Rattle.writing.specs.declared.Field.{Field}
 use Rattle.writing.specs.declared.Field.the-variants.{Nothing, Bits, Signed, Unwritable}
@@ -16,13 +17,6 @@ module _ (desc : List ℕ) where
 
   unfoldable pub fieldsTo : ℕ → List Field
   fieldsTo n = map fieldOf (nodesTo desc n)
-
--- How many bits a field has, 0 where nothing of it is stored.
-unfoldable pub widthOf : Field → ℕ
-widthOf Nothing = 0
-widthOf (Bits w) = w
-widthOf (Signed w) = w
-widthOf Unwritable = 0
 
 -- Half of what a two's complement number of the field's width can be, 0 where it has no sign.
 unfoldable pub halfOf : Field → ℕ

@@ -9,11 +9,11 @@ use lib.ListN.{length, replicate}
 use borrow.Author.Needs.{needs}
 use Rattle.writing.specs.Entries.{someWrong, bitsFrom, entryWords, holds, nodeAt, numberAt, fieldAt}
 use Rattle.writing.specs.declared.Field.{Field}
-use Rattle.writing.specs.Bits.{inWidth}
+use Rattle.writing.specs.Bits.{widthOf, inWidth}
 use Rattle.writing.specs.Outcome.{given, refusing, writing}
 use Rattle.writing.specs.declared.Answer.the-variants.{WrongTable}
 use Rattle.writer.specs.Inner.Packing.{Packs}
-use Rattle.writer.specs.Inner.Tables.{widthOf, Tabled}
+use Rattle.writer.specs.Inner.Tables.{Tabled}
 use Rattle.writer.proofs.Packing.{packs-none}
 use Rattle.writer.proofs.Entering.{wrong-node, right-number, right-none, rest-wrong, rest-right, rest-none, bits-more, entered-wrong, entered-right}
 use Rattle.writer.proofs.buffers.clear.Reads as clear-reads

@@ -8,7 +8,8 @@ use lib.ListN.{length, length-set}
 use Rattle.description.specs.Examine.{Readable}
 use Rattle.description.specs.Limits.{mostNodes}
 use Rattle.writing.specs.Fields.{isUnwritable, someUnwritable}
-use Rattle.writer.specs.Inner.Tables.{fieldsTo, widthOf, halfOf, Listed}
+use Rattle.writing.specs.Bits.{widthOf}
+use Rattle.writer.specs.Inner.Tables.{fieldsTo, halfOf, Listed}
 use Rattle.writer.proofs.Filling.{Filled, writable-none, writable-more, unwritable-found, filled-more, filled-all, narrow-field}
 use Rattle.writer.proofs.fields.half_of.Reads as half-of-reads
 use Rattle.writer.proofs.fields.is_unwritable.Reads as is-unwritable-reads
@@ -70,7 +71,7 @@ unfolding mostNodes
 slice-write-widths c = omega (arith, few (c .before .before .before .before .before .before .before .before .before .before .before .pre .0) (c .before .before .before .before .before .loop .k) (omega arith))
 
 most-of-requires : tie.Need-most-of-requires Inv-loop μ-loop
-most-of-requires c κs = rw (c .width-of .ensures) (narrow-field _ (c .before .before .before .to-write .ensures .1))
+most-of-requires c κs = rw (c .width-of .ensures) (narrow-field (c .before .before .before .to-write .result) (c .before .before .before .to-write .ensures .1))
 
 mul-mosts : tie.Need-mul-mosts Inv-loop μ-loop
 unfolding mostNodes

@@ -15,7 +15,7 @@ extern "C" {
 #endif
 
 /* Why a description or a call is refused, by document 01's number or request 2's. Of several reasons the first in this order is given: 1; then, node
- * by node from the front, 4, 2, 3, 5, 6, 7, 8; then 9 to 11, which are all that the check has; then 12 and 13 where it is the reader that was called,
+ * by node from the front, 4, 2, 3, 5, 6, 7, 8; then 9 and 10, which are all that the check has; then 12 and 13 where it is the reader that was called,
  * and 14 to 16 where it is the writer. "That node" is the one at which the reason was found; nodes are numbered from 0. */
 enum rippleshrug_refusal {
     /* The description is accepted. Node 0. */
@@ -40,13 +40,12 @@ enum rippleshrug_refusal {
     RIPPLESHRUG_NEVER_NAMED = 9,
     /* An operand names a bind that is not around it. The root. */
     RIPPLESHRUG_NO_ENCLOSING_BIND = 10,
-    /* More than 31 binds around one node. The root. */
-    RIPPLESHRUG_TOO_MANY_BINDS = 11,
-    /* Of the reader alone, after 1 to 11: the input has more than 8,191 bytes. Node 0. */
+    /* 11, more than 31 binds around one node, is never given, since 64 nodes allow 31, and the number is not used again. */
+    /* Of the reader alone, after 1 to 10: the input has more than 8,191 bytes. Node 0. */
     RIPPLESHRUG_INPUT_TOO_LONG = 12,
     /* Of the reader alone, last: the entries outnumber the room of the tables. Node 0. */
     RIPPLESHRUG_NO_ROOM = 13,
-    /* Of the writer alone, after 1 to 11: the description has a both, an absorb or a scan, whatever the table is. Node 0. */
+    /* Of the writer alone, after 1 to 10: the description has a both, an absorb or a scan, whatever the table is. Node 0. */
     RIPPLESHRUG_NOT_WRITABLE = 14,
     /* Of the writer alone: the count is more than the table holds, a node number is not in the description, or a number to write is not one of its
      * width: of bits, 0 to 2^w - 1; of signed, -2^(w - 1) to 2^(w - 1) - 1, as two's complement of 32 bits. Node 0. */
@@ -69,7 +68,6 @@ static inline const char *rippleshrug_reason(enum rippleshrug_refusal refusal) {
     case RIPPLESHRUG_NUMBER_NODE_WANTED: return "a number node is wanted";
     case RIPPLESHRUG_NEVER_NAMED: return "a node never named";
     case RIPPLESHRUG_NO_ENCLOSING_BIND: return "operand names no enclosing bind";
-    case RIPPLESHRUG_TOO_MANY_BINDS: return "more than 31 binds around one node";
     case RIPPLESHRUG_INPUT_TOO_LONG: return "input over 8,191 bytes";
     case RIPPLESHRUG_NO_ROOM: return "entries outnumber the room of the tables";
     case RIPPLESHRUG_NOT_WRITABLE: return "the description has both, absorb or scan";

@@ -37,10 +37,10 @@ run_tests() {
     "$out/test++" || fail "the check, called from C++, gave a wrong answer"
 }
 
-# 01's reasons, and request 2's, by number.
+# 01's reasons, and request 2's, by number; 11 is never given.
 reasons=('' 'description empty or over 1,024 bytes' 'unknown kind' 'body cut short' 'a 65th node begins'
     'width, relation, operator or operand not listed' 'child not smaller than the node' 'child named before, also twice in one node'
-    'a number node is wanted' 'a node never named' 'operand names no enclosing bind' 'more than 31 binds around one node' 'input over 8,191 bytes'
+    'a number node is wanted' 'a node never named' 'operand names no enclosing bind' '' 'input over 8,191 bytes'
     'entries outnumber the room of the tables' 'the description has both, absorb or scan')
 
 # The program over the same descriptions: its words and its exit status.

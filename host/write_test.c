@@ -151,7 +151,7 @@ static void test_widths(void) {
     EXPECT(writes(number(SIGNED, 32, 0x80000000u), 1, 4, 32, "\x80\x00\x00\x00") && writes(number(SIGNED, 32, 5), 1, 4, 32, "\x00\x00\x00\x05"));
 }
 
-/* 1 to 11 with their nodes, then 14, whatever the table and the buffer are. */
+/* 1 to 10 with their nodes, then 14, whatever the table and the buffer are. */
 static void test_descriptions(void) {
     static const uint8_t wide[] = {0x02, 0x21}, twice[] = {0x00, 0x0C, 0x00, 0x0B, 0x00}, unnamed[] = {0x00, 0x00, 0x0C, 0x01};
     static const uint8_t both[] = {0x02, 0x08, 0x00, 0x07, 0x00, 0x01}, absorb[] = {0x02, 0x08, 0x0B, 0x00}, scan[] = {0x02, 0x08, 0x0C, 0x00};

@@ -81,7 +81,7 @@ test_pieces() {
     done < <(od -An -v -to1 -w1 "$case_a" | tr -d ' ') | "$listing" | diff "$printed_a" - || fail "pieces of one byte are read otherwise"
 }
 
-# Long inputs are refused 12 before they end, and after 1 to 11.
+# Long inputs are refused 12 before they end, and after 1 to 10.
 test_long() {
     { cat "$case_a"; head -c 8188 /dev/zero; } | "$listing" >"$work/out"
     [ "$(cat "$work/out")" = 'refused 12 0' ] || fail "8,192 bytes of input are not refused 12"

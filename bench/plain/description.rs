@@ -25,9 +25,6 @@ pub fn examine(desc: &[u8], starts: &mut [usize; MOST_NODES]) -> Result<usize, (
     if needs(desc, starts, root) > 0 {
         return Err((10, root));
     }
-    if binds(desc, starts, root) > 31 {
-        return Err((11, root));
-    }
     Ok(n)
 }
 
@@ -103,11 +100,4 @@ fn needs(desc: &[u8], starts: &[usize; MOST_NODES], node: usize) -> usize {
     let inside = |j: usize| (desc[at] == 5 && j == 1) as usize;
     let below = children(desc, at).iter().enumerate().map(|(j, &c)| needs(desc, starts, c as usize).saturating_sub(inside(j)));
     below.fold(own, usize::max)
-}
-
-fn binds(desc: &[u8], starts: &[usize; MOST_NODES], node: usize) -> usize {
-    let at = starts[node];
-    let inside = |j: usize| (desc[at] == 5 && j == 1) as usize;
-    let below = children(desc, at).iter().enumerate().map(|(j, &c)| binds(desc, starts, c as usize) + inside(j));
-    below.fold(0, usize::max)
 }

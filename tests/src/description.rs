@@ -71,7 +71,7 @@ pub fn check(desc: &[u8]) -> Result<Vec<Node>, Refusal> {
     Ok(nodes)
 }
 
-/// 9 to 11, which are of the description as a whole.
+/// 9 to 11, which are of the description as a whole. The library asks 11 no more (request 4): a case that reached it would differ.
 fn whole(nodes: &[Node], named: &[bool]) -> Result<(), Refusal> {
     let root = nodes.len() - 1;
     if let Some(lowest) = (0..root).find(|&n| !named[n]) {

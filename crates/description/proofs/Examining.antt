@@ -23,6 +23,7 @@ use Rattle.description.specs.declared.Refusal.the-variants.{EmptyOrTooLo
 use Rattle.description.specs.declared.Verdict as verdicts
 use Rattle.description.specs.declared.Verdict.the-variants.{Accepted}
 use Rattle.description.specs.declared.nodes.Parsed.the-variants.{Stopped}
+use Rattle.description.proofs.Enclosing.{few-binds}
 use Rattle.description.proofs.Firsts.{first-none, not-refused}
 use Rattle.description.proofs.Judging.{judged-refused, judged-clear, node-placed, tree-is}
 use Rattle.description.proofs.Numbered.{nodes-length}
@@ -34,7 +35,7 @@ unfolding counted
 counted-stopped (parsed nodes) r e = let z : _≡_ {A = ℕ} 0 1 = cc in absurd (omega arith)
 counted-stopped (stopped q) r e = let same : q ≡ r = cc in ap stopped same
 
--- a number of nodes is said where 9, 10 and 11 find nothing
+-- a number of nodes is said where 9 and 10 find nothing
 judged-nodes : (nodes : List Node) (n : ℕ) → judged nodes ≡ Nodes n → (treeRefusal nodes ≡ none) × (length nodes ≡ n)
 judged-nodes nodes n = unfold judged in go (treeRefusal nodes)
   where
@@ -42,15 +43,14 @@ judged-nodes nodes n = unfold judged in go (treeRefusal nodes)
     go (some r) e = let z : _≡_ {A = ℕ} 0 1 = cc in absurd (omega arith)
     go none e = (refl, cc)
 
--- where 9, 10 and 11 find nothing, every operand is bound, by no more binds than there may be
-clear-tree : (nodes : List Node) → treeRefusal nodes ≡ none → (needs (rootTree nodes) ≡ 0) × (binds (rootTree nodes) ≤ mostBinds)
+-- where 9 and 10 find nothing, every operand is bound
+clear-tree : (nodes : List Node) → treeRefusal nodes ≡ none → needs (rootTree nodes) ≡ 0
 unfolding treeRefusal
 clear-tree nodes e =
     let t9 = first-none _ _ e in
     let t10 = first-none _ _ (t9 .1) in
-    let t11 = first-none _ _ (t10 .1) in
     let none-needed = ltb-false 0 (needs (rootTree nodes)) (not-refused _ _ (t10 .0)) in
-    (omega arith, ltb-false mostBinds (binds (rootTree nodes)) (not-refused _ _ (t11 .0)))
+    omega arith
 
 -- the check alone says what the examination does
 module _ (d : List ℕ) where
@@ -153,8 +153,8 @@ module _ (d : List ℕ) where
             some-node = some-node;
             means = meaning-accepted (nodesTo d n) (w .nodes-are) clear ∙ ap accepted tree;
             placed = node-placed d starts flags n short some-node w;
-            bound = sym (ap needs tree) ∙ clear-tree (nodesTo d n) clear .0;
-            few-binds = subst (λ t. binds t ≤ mostBinds) tree (clear-tree (nodesTo d n) clear .1);
+            bound = sym (ap needs tree) ∙ clear-tree (nodesTo d n) clear;
+            few-binds = subst (λ t. binds t ≤ mostBinds) tree (few-binds d (nodesTo d n) (w .nodes-are));
           }
 
       pub answer-whole : (starts₀ : List ℕ) (r : Examined) → r ≡ judged (nodesTo d n) → starts ≡ placedStarts d starts₀ → Answers starts₀ starts r

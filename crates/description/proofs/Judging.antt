@@ -7,17 +7,17 @@ use mathlib.Core.Path.{_≡_, ap, _∙_}
 use native.Mathlib.Omega.{arith}
 use lib.ListN.{length}
 use borrow.Author.Tests.{lt-ltb, le-ltb}
-use Rattle.description.specs.Binds.{needs, binds}
+use Rattle.description.specs.Binds.{needs}
 use Rattle.description.specs.Check.{refuseIf, firstOf, namedBy, neverNamed, treeRefusal}
 use Rattle.description.specs.Inner.Steps.{judged, Whole}
-use Rattle.description.specs.Limits.{mostBytes, mostBinds}
+use Rattle.description.specs.Limits.{mostBytes}
 use Rattle.description.specs.Inner.Names.{unmarked}
 use Rattle.description.specs.Nodes.{Node}
 use Rattle.description.specs.Places.{nodesTo, treeOf, Placed}
 use Rattle.description.specs.Trees.{rootTree}
 use Rattle.description.specs.declared.Examined.the-variants.{Nodes, Refused}
 use Rattle.description.specs.declared.Refusal.{Refusal}
-use Rattle.description.specs.declared.Refusal.the-variants.{NeverNamed, NoEnclosingBind, TooManyBinds}
+use Rattle.description.specs.declared.Refusal.the-variants.{NeverNamed, NoEnclosingBind}
 use Rattle.description.specs.declared.names.Unnamed.the-variants.{Node as Lowest, Nothing}
 use Rattle.description.proofs.Marking.{refusalOf, unmarked-unnamed}
 use Rattle.description.proofs.Numbered.{nodes-length}
@@ -54,16 +54,7 @@ module _ (d starts : List ℕ) (flags : List Bool) (n : ℕ) (short : length d �
     unfolding treeRefusal firstOf refuseIf refusalOf
     judge-10 b = judged-refused (nodesTo d n) (NoEnclosingBind (n - 1)) (rw (unnamed-is, a, root-is, tree-is, lt-ltb 0 (needs (treeOf d (n - 1))) b))
 
-    module _ (b : needs (treeOf d (n - 1)) ≤ 0) where
-      pub judge-11 : mostBinds < binds (treeOf d (n - 1)) → judged (nodesTo d n) ≡ Refused (TooManyBinds (n - 1))
-      unfolding treeRefusal firstOf refuseIf refusalOf
-      judge-11 c =
-          judged-refused (nodesTo d n) (TooManyBinds (n - 1))
-          (rw (unnamed-is, a, root-is, tree-is, le-ltb 0 (needs (treeOf d (n - 1))) b, lt-ltb mostBinds (binds (treeOf d (n - 1))) c))
-
-      pub judge-clear : binds (treeOf d (n - 1)) ≤ mostBinds → judged (nodesTo d n) ≡ Nodes n
-      unfolding treeRefusal firstOf refuseIf refusalOf
-      judge-clear c =
-          judged-clear (nodesTo d n)
-          (rw (unnamed-is, a, root-is, tree-is, le-ltb 0 (needs (treeOf d (n - 1))) b, le-ltb mostBinds (binds (treeOf d (n - 1))) c))
-          ∙ ap Nodes (nodes-length d n)
+    pub judge-clear : needs (treeOf d (n - 1)) ≤ 0 → judged (nodesTo d n) ≡ Nodes n
+    unfolding treeRefusal firstOf refuseIf refusalOf
+    judge-clear b =
+        judged-clear (nodesTo d n) (rw (unnamed-is, a, root-is, tree-is, le-ltb 0 (needs (treeOf d (n - 1))) b)) ∙ ap Nodes (nodes-length d n)

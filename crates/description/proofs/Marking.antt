@@ -29,6 +29,16 @@ in-append i (x ∷ xs) ys = ap (λ b. eqb i x || b) (in-append i xs ys) ∙ asso
     assoc true b c = refl
     assoc false b c = refl
 
+-- in whatever order they stand
+pub in-moved : (i : ℕ) (xs : List ℕ) (y : ℕ) (ys : List ℕ) → isIn i (y ∷ xs ++ ys) ≡ isIn i (xs ++ y ∷ ys)
+unfolding isIn
+in-moved i xs y ys = ap (λ b. eqb i y || b) (in-append i xs ys) ∙ swap (eqb i y) (isIn i xs) (isIn i ys) ∙ sym (in-append i xs (y ∷ ys))
+  where
+    swap : (a b c : Bool) → (a || (b || c)) ≡ (b || (a || c))
+    swap true true c = refl
+    swap true false c = refl
+    swap false b c = refl
+
 -- no name yet
 pub mark-none : Marks (replicate mostNodes false) []
 unfolding isIn
@@ -52,20 +62,12 @@ tested flags names (c ∷ cs) m below =
     (tested (set flags c true) (c ∷ names) cs (mark-one flags names c h m) (or-right-false (leb mostNodes c) (someNotSmaller mostNodes cs) below))
 
 pub marking : (flags : List Bool) (names cs : List ℕ) → Marks flags names → someNotSmaller mostNodes cs ≡ false → Marks (marked flags cs) (names ++ cs)
-unfolding marked someNotSmaller isIn
+unfolding marked someNotSmaller
 marking flags names [] m below = rw append-nil m
 marking flags names (c ∷ cs) m below =
     let h = leb-false mostNodes c (or-left-false (leb mostNodes c) (someNotSmaller mostNodes cs) below) in
     let later = marking (set flags c true) (c ∷ names) cs (mark-one flags names c h m) (or-right-false (leb mostNodes c) (someNotSmaller mostNodes cs) below) in
-    record { all = later .all; at = λ i l. later .at i l ∙ moved i }
-  where
-    swap : (a b d : Bool) → (a || (b || d)) ≡ (b || (a || d))
-    swap true true d = refl
-    swap true false d = refl
-    swap false b d = refl
-
-    moved : (i : ℕ) → isIn i (c ∷ names ++ cs) ≡ isIn i (names ++ c ∷ cs)
-    moved i = ap (λ b. eqb i c || b) (in-append i names cs) ∙ swap (eqb i c) (isIn i names) (isIn i cs) ∙ sym (in-append i names (c ∷ cs))
+    record { all = later .all; at = λ i l. later .at i l ∙ in-moved i names c cs }
 
 -- the names of one node more
 pub named-snoc : (before : List Node) (node : Node) → namedBy (before ++ (node ∷ [])) ≡ namedBy before ++ children node

@@ -4,7 +4,6 @@ use mathlib.Core.Bool.{Bool}
 use mathlib.Core.List.{List, [], _∷_, _++_}
 use mathlib.Core.Option.{Option, none, some}
 use mathlib.Core.Path.{_≡_, refl, sym, ap, subst, _∙_}
-use native.Mathlib.Decide.{ℕ-discrete}
 use native.Mathlib.Nat.{sub-zero}
 use native.Mathlib.Numerals.{add-one}
 use native.Mathlib.Omega.{arith}
@@ -25,6 +24,7 @@ use Rattle.description.specs.declared.nodes.Parsed.the-variants.{Nodes, 
 use Rattle.description.specs.declared.nodes.Step.the-variants.{Next, Stop}
 use Rattle.description.proofs.Marking.{named-snoc}
 use Rattle.description.proofs.Numbered.{starts-length, starts-at, nodes-length}
+use Rattle.description.proofs.Reached.{stand-next}
 
 module _ (d : List ℕ) (before : List Node) (i : ℕ) where
   pub from-end : (left : ℕ) → length d ≤ i → nodesFrom d left before i ≡ parsed before
@@ -127,7 +127,12 @@ module _ (d starts₀ starts : List ℕ) (flags : List Bool) (at n : ℕ) (g : G
             room = g .room;
             here = ap (nodeEnd d) (g .here);
             placed = next-placed;
-            stand = next-stand;
+            stand =
+                stand-next d n (g .stand)
+                (record {
+                  begins = subst (λ (p : ℕ). p < length d) (g .here) h;
+                  clear = subst (λ (p : ℕ). nodeRefusal d (nodesTo d n) p ≡ none) (g .here) e;
+                });
             marks = next-marks;
             left = next-left;
           })
@@ -138,18 +143,6 @@ module _ (d starts₀ starts : List ℕ) (flags : List Bool) (at n : ℕ) (g : G
               ap (λ l. set l n at) (g .placed)
               ∙ ap (set (sets starts₀ 0 (startsTo d n)) n) (g .here)
               ∙ sym (sets-snoc starts₀ 0 (startsTo d n) (start d n) ∙ ap (λ (k : ℕ). set (sets starts₀ 0 (startsTo d n)) k (start d n)) last)
-
-          next-stand : (k : ℕ) → k < suc n → Stands d k
-          next-stand k l = go (ℕ-discrete k n)
-            where
-              go : Dec (k ≡ n) → Stands d k
-              go (yes same) =
-                  rw same
-                  (record {
-                    begins = subst (λ (p : ℕ). p < length d) (g .here) h;
-                    clear = subst (λ (p : ℕ). nodeRefusal d (nodesTo d n) p ≡ none) (g .here) e;
-                  })
-              go (no other) = g .stand k (omega arith)
 
           next-marks : Marks flags′ (namedBy (nodesTo d n ++ (nodeAt d (start d n) ∷ [])))
           next-marks =

@@ -1,11 +1,9 @@
--- A walk over a node's children keeps the most of what they say: what a node needs, and the binds in it, are found by such walks.
+-- A walk over a node's children keeps the most of what they say: what a node needs, and the binds in it, are such walks.
 use Prim.Native.Nat.{ℕ, zero, suc, _+_, _-_, _≤_, _<_, max}
-use mathlib.Core.Bool.{Bool, true, false, cond, _&&_}
 use mathlib.Core.List.{List, [], _∷_}
 use mathlib.Core.Path.{_≡_, refl, sym, ap, subst, _∙_}
 use native.Mathlib.Nat.{add-zero, zero-add, sub-zero}
 use native.Mathlib.Omega.{arith}
-use lib.Dec.{eqb, lit≤}
 use borrow.Author.Tests.{ne-eqb}
 use Rattle.description.specs.Binds.{needs, binds}
 use Rattle.description.specs.Bodies.{childCounts, childCount}
@@ -46,15 +44,6 @@ module _ (d : List ℕ) (kind : ℕ) (step : ℕ → ℕ → ℕ) (value : ℕ �
   walk-child most p k i h =
       subst (λ (j : ℕ). step (value (byte d (p + i))) (binding kind j) ≤ walk kind step value most 0 (childrenAt d p k)) (zero-add i)
       (walk-has most 0 p k i h)
-
--- a node puts one bind around a child at most
-pub binding-small : (kind j : ℕ) → binding kind j ≤ 1
-unfolding binding
-binding-small kind j = go (eqb kind 5 && eqb j 1)
-  where
-    go : (b : Bool) → cond b 1 0 ≤ 1
-    go true = lit≤ tt
-    go false = lit≤ tt
 
 module _ (d : List ℕ) (node : ℕ) (step : ℕ → ℕ → ℕ) (value : ℕ → ℕ) (whole : ℕ) where
   -- the walk over a node's children from place j on gives what the whole walk does

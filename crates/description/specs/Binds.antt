@@ -24,7 +24,7 @@ needs (compute n w f x y) = max (needsOf x) (needsOf y)
 needs (absorb n a) = needs a
 needs (scan n a) = needs a
 
--- The most binds around one node of a subtree.
+-- The most binds around one node of a subtree. No refusal asks for it: a reader has as many numbers lent at once.
 unfoldable pub binds : Tree → ℕ
 binds (unit n) = 0
 binds (bottom n) = 0

@@ -1,17 +1,18 @@
--- The check. "Order: 1; then node by node from the front 4, 2, 3, 5, 6, 7, 8; then 9 to 13", of which 12 and 13 are the reader's.
+-- The check. "Order: 1; then node by node from the front 4, 2, 3, 5, 6, 7, 8; then 9 to 13", of which 12 and 13 are the reader's. Request 4: "no
+-- description reaches refusal 11".
 use Prim.Native.Nat.{ℕ, zero, suc, _+_, _-_}
 use mathlib.Core.Bool.{Bool, true, false, not, _||_}
 use mathlib.Core.List.{List, [], _∷_, _++_}
 use mathlib.Core.Option.{Option, none, some}
 use lib.Dec.{eqb, leb, ltb}
 use lib.ListN.{length, getD}
-use Rattle.description.specs.Limits.{mostBytes, mostNodes, mostBinds}
+use Rattle.description.specs.Limits.{mostBytes, mostNodes}
 use Rattle.description.specs.Nodes.{Node, unit, children, isNumber, mustBeNumbers}
 use Rattle.description.specs.Kinds.{byte, kinds, rowOf}
 use Rattle.description.specs.Trees.{Tree, rootTree}
-use Rattle.description.specs.Binds.{needs, binds}
+use Rattle.description.specs.Binds.{needs}
 use Rattle.description.specs.declared.Refusal.{Refusal}
-use Rattle.description.specs.declared.Refusal.the-variants.{EmptyOrTooLong, UnknownKind, BodyCutShort, TooManyNodes, NotListed, ChildNotSmaller, ChildNamedBefore, NumberNodeWanted, NeverNamed, NoEnclosingBind, TooManyBinds}
+use Rattle.description.specs.declared.Refusal.the-variants.{EmptyOrTooLong, UnknownKind, BodyCutShort, TooManyNodes, NotListed, ChildNotSmaller, ChildNamedBefore, NumberNodeWanted, NeverNamed, NoEnclosingBind}
 use Rattle.description.specs.declared.Verdict.{Verdict}
 use Rattle.description.specs.declared.Verdict.the-variants.{Accepted, Refused}
 
@@ -97,14 +98,13 @@ module _ (desc : List ℕ) where
         | false ↦ parsed before
       ]
 
--- "9, 10, 11", for all nodes together: "Each node except the last is named".
+-- 9 and 10, for all nodes together: "Each node except the last is named".
 unfoldable pub treeRefusal : List Node → Option Refusal
 treeRefusal nodes =
     let root = length nodes - 1 in
     firstOf
     (neverNamed (namedBy nodes) 0 root  -- 9
     ∷ refuseIf (ltb 0 (needs (rootTree nodes))) (NoEnclosingBind root)  -- 10
-    ∷ refuseIf (ltb mostBinds (binds (rootTree nodes))) (TooManyBinds root)  -- 11
     ∷ [])
 
 -- What a description means: the tree of its root, or the first refusal.

@@ -9,6 +9,6 @@ mostBytes = 1024
 unfoldable pub mostNodes : ℕ
 mostNodes = 64
 
--- "more than 31 binds around one node"
+-- Request 4: "64 nodes allow 31" binds around one node, which no refusal says.
 unfoldable pub mostBinds : ℕ
 mostBinds = 31

@@ -1,7 +1,7 @@
--- 01's table of refusals, 1 to 11: the number of each, and the node given.
+-- 01's table of refusals, 1 to 10: the number of each, and the node given. Request 4: 11 "is not used again".
 use Prim.Native.Nat.{ℕ}
 use Rattle.description.specs.declared.Refusal.{Refusal}
-use Rattle.description.specs.declared.Refusal.the-variants.{EmptyOrTooLong, UnknownKind, BodyCutShort, TooManyNodes, NotListed, ChildNotSmaller, ChildNamedBefore, NumberNodeWanted, NeverNamed, NoEnclosingBind, TooManyBinds}
+use Rattle.description.specs.declared.Refusal.the-variants.{EmptyOrTooLong, UnknownKind, BodyCutShort, TooManyNodes, NotListed, ChildNotSmaller, ChildNamedBefore, NumberNodeWanted, NeverNamed, NoEnclosingBind}
 use Rattle.description.specs.declared.Verdict.{Verdict}
 use Rattle.description.specs.declared.Verdict.the-variants.{Accepted, Refused}
 
@@ -16,7 +16,6 @@ refusalNumber (ChildNamedBefore n) = 7
 refusalNumber (NumberNodeWanted n) = 8
 refusalNumber (NeverNamed n) = 9
 refusalNumber (NoEnclosingBind n) = 10
-refusalNumber (TooManyBinds n) = 11
 
 abbrev pub refusalNode : Refusal → ℕ
 refusalNode EmptyOrTooLong = 0
@@ -29,9 +28,8 @@ refusalNode (ChildNamedBefore n) = n
 refusalNode (NumberNodeWanted n) = n
 refusalNode (NeverNamed n) = n
 refusalNode (NoEnclosingBind n) = n
-refusalNode (TooManyBinds n) = n
 
--- "The check alone gives 1 to 11 with the node, or 0 and node 0 where it accepts."
+-- "The check alone gives 1 to 11 with the node, or 0 and node 0 where it accepts": since request 4, 1 to 10.
 abbrev pub verdictNumber : Verdict → ℕ
 verdictNumber Accepted = 0
 verdictNumber (Refused r) = refusalNumber r

@@ -1,10 +1,10 @@
-// How many binds a subtree needs around it, and how many stand around a node of it.
+// How many binds a subtree needs around it.
 use crate::kinds;
 use crate::places;
 ghost use mathlib.Core.Path.{_≡_};
 ghost use Prim.Native.Nat.{_+_, _-_, _≤_, max};
 ghost use lib.ListN.{length};
-ghost use Rattle.description.specs.Binds.{needsOf, needs, binds};
+ghost use Rattle.description.specs.Binds.{needsOf, needs};
 ghost use Rattle.description.specs.Inner.Children.{ownNeeds, binding};
 ghost use Rattle.description.specs.Kinds.{rowOf, operand};
 ghost use Rattle.description.specs.Limits.{mostBytes};
@@ -25,24 +25,6 @@ pub fn needs(desc: &[u8], starts: &[usize], node: usize) -> usize
         let child = places::child_of(desc, starts, node, j);
         let needed = over(needs(desc, starts, child), binding(kind, j));
         most = larger(most, needed);
-        j += 1;
-    }
-    most
-}
-
-// "more than 31 binds around one node": the most binds around one node of the subtree of a node.
-pub fn binds(desc: &[u8], starts: &[usize], node: usize) -> usize
-    requires { ⌜ Placed (now desc) (now starts) node ⌝ }
-    ensures { λ r. ⌜ (r ≡ binds (treeOf (now (desc .entry)) node)) × (r ≤ node) ⌝ }
-{
-    let kind = places::kind_of(desc, starts, node);
-    let children = kinds::children_of(kind);
-    let mut most: usize = 0;
-    let mut j: usize = 0;
-    while j < children {
-        let child = places::child_of(desc, starts, node, j);
-        let around = binds(desc, starts, child) + binding(kind, j);
-        most = larger(most, around);
         j += 1;
     }
     most

@@ -22,11 +22,11 @@ pub const MOST_BYTES: usize = 1024;
 // "A description holds 1 to 64 nodes."
 pub const MOST_NODES: usize = 64;
 
-// "more than 31 binds around one node"
+// "64 nodes allow 31" binds around one node: what a reader has room for.
 pub const MOST_BINDS: usize = 31;
 
 // Why a description is refused: the first of document 01's reasons, in its order. A case holds the node that it gives, where 01 does not fix
-// that number.
+// that number. 11 is "not used again".
 pub enum Refusal {
     // 1: description empty or over 1,024 bytes.
     EmptyOrTooLong,
@@ -48,8 +48,6 @@ pub enum Refusal {
     NeverNamed(u8),
     // 10: operand names no enclosing bind.
     NoEnclosingBind(u8),
-    // 11: more than 31 binds around one node.
-    TooManyBinds(u8),
 }
 
 // What the check says.
@@ -94,7 +92,7 @@ pub fn examine(desc: &[u8], starts: &mut [usize; MOST_NODES]) -> Examined
     }
 }
 
-// "9, 10, 11", for n nodes that were parsed.
+// 9 and 10, for n nodes that were parsed.
 fn whole(desc: &[u8], starts: &[usize], named: &[bool; MOST_NODES], n: usize) -> Examined
     requires { ⌜ (length (now desc) ≤ mostBytes) × (0 < n) × Whole (now desc) (now starts) (now named) n ⌝ }
     ensures { λ r. ⌜ r ≡ judged (nodesTo (now (desc .entry)) n) ⌝ }
@@ -105,9 +103,6 @@ fn whole(desc: &[u8], starts: &[usize], named: &[bool; MOST_NODES], n: usize) ->
     }
     if 0 < binds::needs(desc, starts, root) {
         return Examined::Refused(Refusal::NoEnclosingBind(root as u8));
-    }
-    if MOST_BINDS < binds::binds(desc, starts, root) {
-        return Examined::Refused(Refusal::TooManyBinds(root as u8));
     }
     Examined::Nodes(n)
 }

@@ -17,7 +17,6 @@ pub fn number(refusal: Refusal) -> u8
         Refusal::NumberNodeWanted(_) => 8,
         Refusal::NeverNamed(_) => 9,
         Refusal::NoEnclosingBind(_) => 10,
-        Refusal::TooManyBinds(_) => 11,
     }
 }
 
@@ -35,6 +34,5 @@ pub fn node(refusal: Refusal) -> u8
         Refusal::NumberNodeWanted(n) => n,
         Refusal::NeverNamed(n) => n,
         Refusal::NoEnclosingBind(n) => n,
-        Refusal::TooManyBinds(n) => n,
     }
 }

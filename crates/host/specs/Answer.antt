@@ -9,7 +9,7 @@ use Rattle.writing.specs.Outcome as writing
 use Rattle.host.specs.declared.Bits.{Bits}
 use Rattle.host.specs.declared.Numbers.{Numbers}
 
--- "The check alone gives 1 to 11 with the node, or 0 and node 0 where it accepts": the refusal plus 256 times the node.
+-- "The check alone gives 1 to 11 with the node, or 0 and node 0 where it accepts", 11 never: the refusal plus 256 times the node.
 unfoldable pub answer : List ℕ → ℕ
 answer desc = verdictNumber (checked desc) + 256 * verdictNode (checked desc)
 

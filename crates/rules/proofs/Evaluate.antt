@@ -3,11 +3,11 @@ use Prim.Native.Nat.{ℕ}
 use mathlib.Core.List.{List}
 use Rattle.bits.specs.Bits.{total, bit, number}
 use Rattle.bits.specs.Whole.{twosComplement, modulo, word, sameZ}
-use Rattle.description.specs.Limits.{mostBytes, mostNodes, mostBinds}
+use Rattle.description.specs.Limits.{mostBytes, mostNodes}
 use Rattle.description.specs.Nodes.{children, isNumber, mustBeNumbers}
 use Rattle.description.specs.Kinds.{byte, isWidth, isSignedWidth, relations, isRelation, relation, operators, isOperator, operator, isOperand, operand, unitRow, kinds, rowOf}
 use Rattle.description.specs.Trees.{tree, treesAfter, rootTree}
-use Rattle.description.specs.Binds.{needsOf, needs, binds}
+use Rattle.description.specs.Binds.{needsOf, needs}
 use Rattle.description.specs.Check.{refuseIf, firstOf, isIn, someNotSmaller, someNamedBefore, someNoNumber, namedBy, neverNamed, nodeAt, nodeEnd, nodeRefusal, nodesFrom, treeRefusal, meaning}
 use Rattle.rules.specs.Entries.{reading, any}
 use Rattle.rules.specs.Numbers.{valueOf, holds, result}
@@ -26,9 +26,9 @@ pub record Evaluated : Type 0 where
 -- A description's bytes and an input's, with tables of so many words.
 unfoldable pub evaluated : (description input : List ℕ) → (values descriptors : ℕ) → Evaluated
 unfolding total bit number twosComplement modulo word sameZ
-    mostBytes mostNodes mostBinds children isNumber mustBeNumbers
+    mostBytes mostNodes children isNumber mustBeNumbers
     byte isWidth isSignedWidth relations isRelation relation operators isOperator operator isOperand operand unitRow kinds rowOf
-    tree treesAfter rootTree needsOf needs binds
+    tree treesAfter rootTree needsOf needs
     refuseIf firstOf isIn someNotSmaller someNamedBefore someNoNumber namedBy neverNamed nodeAt nodeEnd nodeRefusal nodesFrom treeRefusal meaning
     reading any valueOf holds result codeFor twoSides ended part firstRound nextRound roundsAfter rounds firstStart readBits doneAt read
     valueWords descriptorWords room table stated mostInput refusing succeeding outcome

@@ -28,7 +28,7 @@ refused-clear : (n : ℕ) (a : Answer) (buffer : List ℕ) → buffer ≡ replic
 unfolding given refusing
 refused-clear n a buffer e = ap (given a) e
 
--- 1 to 11
+-- 1 to 10
 pub refused-call : (n : ℕ) (desc values : List ℕ) (count : ℕ) (buffer : List ℕ) → buffer ≡ replicate n 0 → (r : Refusal) → meaning desc ≡ refused r
     → given (BadDescription r) buffer ≡ outcome n desc values count
 refused-call n desc values count buffer e r m = refused-clear n (BadDescription r) buffer e ∙ sym (outcome-refused n desc values count r m)

@@ -155,7 +155,7 @@ cases =
     ∷ refuses 1 absorbed (entry 0 1 []) 1 14 0
     ∷ refuses 1 (0x02 ∷ 0x08 ∷ 0x0c ∷ 0x00 ∷ []) (entry 0 1 []) 1 14 0
     ∷ refuses 1 absorbed [] 5 14 0
-    -- 1 to 11 before 14: an empty description, and one with an absorb that is never named
+    -- 1 to 10 before 14: an empty description, and one with an absorb that is never named
     ∷ refuses 2 [] (entry 0 1 []) 1 1 0
     ∷ refuses 2 (0x02 ∷ 0x08 ∷ 0x0b ∷ 0x00 ∷ 0x00 ∷ []) (entry 0 1 []) 1 9 1
     -- a table of 4 entries has no fifth, and three words more make none

@@ -1,58 +1,43 @@
 -- The nodes of a description that is accepted are the first so many.
-use Prim.Native.Nat.{ℕ, zero, suc}
+use Prim.Native.Nat.{ℕ}
 use mathlib.Core.Bool.{_||_}
 use mathlib.Core.List.{List, []}
 use mathlib.Core.Option.{none, some}
-use mathlib.Core.Path.{_≡_, sym, ap, _∙_}
+use mathlib.Core.Path.{_≡_, refl, ap, _∙_}
 use native.Mathlib.Omega.{arith}
 use lib.Dec.{eqb, ltb}
 use lib.ListN.{length}
-use Rattle.description.specs.Check.{nodeRefusal, Parsed, parsed, stopped, nodesFrom, treeRefusal, Meaning, accepted, refused, meaning}
+use Rattle.description.specs.Check.{Parsed, parsed, stopped, nodesFrom, treeRefusal, Meaning, accepted, refused, meaning}
 use Rattle.description.specs.Examine.{examined}
 use Rattle.description.specs.Limits.{mostBytes, mostNodes}
-use Rattle.description.specs.Places.{start, nodesTo, standing}
+use Rattle.description.specs.Nodes.{Node}
+use Rattle.description.specs.Places.{nodesTo, standing}
 use Rattle.description.specs.Trees.{rootTree}
 use Rattle.description.specs.declared.Examined.the-variants.{Nodes, Refused}
 use Rattle.description.proofs.Choice.{by-test, by-search}
-use Rattle.description.proofs.Numbered.{nodes-length}
+use Rattle.description.proofs.Reached.{First, first-nodes}
 use Rattle.writing.specs.Fields.{nodesOf}
 
 module _ (desc : List ℕ) where
-  -- what a parse finds
-  abbrev FirstNodes : Parsed → Type 0
-  FirstNodes (parsed nodes) = nodes ≡ nodesTo desc (length nodes)
-  FirstNodes (stopped r) = Unit
-
-  so-far : (k : ℕ) → nodesTo desc k ≡ nodesTo desc (length (nodesTo desc k))
-  so-far k = sym (ap (nodesTo desc) (nodes-length desc k))
-
-  first-from : (left k : ℕ) → FirstNodes (nodesFrom desc left (nodesTo desc k) (start desc k))
-  unfolding nodesFrom nodesTo start
-  first-from zero k = by-test FirstNodes (ltb (start desc k) (length desc)) (λ t. tt) (λ f. so-far k)
-  first-from (suc left) k =
-      by-test FirstNodes (ltb (start desc k) (length desc))
-      (λ t. by-search FirstNodes (nodeRefusal desc (nodesTo desc k) (start desc k)) (λ e. first-from left (suc k)) (λ r e. tt))
-      (λ f. so-far k)
-
   -- what is said of a parse's nodes, where the description is accepted
   abbrev MeaningNodes : Parsed → Meaning → Type 0
   MeaningNodes p (accepted t) = elim p [ parsed nodes ↦ nodes | stopped r ↦ [] ] ≡ nodesTo desc (standing p)
   MeaningNodes p (refused r) = Unit
 
   meaning-nodes : MeaningNodes (nodesFrom desc mostNodes [] 0) (meaning desc)
-  unfolding meaning nodesTo start
+  unfolding meaning
   meaning-nodes =
       by-test (MeaningNodes (nodesFrom desc mostNodes [] 0)) (eqb (length desc) 0 || ltb mostBytes (length desc)) (λ t. tt)
-      (λ f. go (nodesFrom desc mostNodes [] 0) (first-from mostNodes 0))
+      (λ f. go (nodesFrom desc mostNodes [] 0) (first-nodes desc mostNodes))
     where
-      go : (p : Parsed) → FirstNodes p
+      go : (p : Parsed) → ((nodes : List Node) → p ≡ parsed nodes → First desc mostNodes nodes)
           → MeaningNodes p
           (elim p [
             | stopped r ↦ refused r
             | parsed nodes ↦ elim (treeRefusal nodes) [ some r ↦ refused r | none ↦ accepted (rootTree nodes) ]
           ])
       go (stopped r) first = tt
-      go (parsed nodes) first = by-search (MeaningNodes (parsed nodes)) (treeRefusal nodes) (λ e. unfold standing in first) (λ r e. tt)
+      go (parsed nodes) first = by-search (MeaningNodes (parsed nodes)) (treeRefusal nodes) (λ e. unfold standing in first nodes refl .are) (λ r e. tt)
 
   -- as many as the examination says
   pub nodes-are : (n : ℕ) → examined desc ≡ Nodes n → nodesOf desc ≡ nodesTo desc n

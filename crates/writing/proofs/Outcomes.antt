@@ -31,7 +31,7 @@ module _ (n : ℕ) where
     writing-over h = rw (lt-ltb (min n mostInput) (bytesFor (length bits)) h, writing)
 
   module _ (desc values : List ℕ) (count : ℕ) where
-    -- 1 to 11
+    -- 1 to 10
     pub outcome-refused : (r : Refusal) → meaning desc ≡ refused r → outcome n desc values count ≡ refusing n (BadDescription r)
     unfolding outcome
     outcome-refused r m = rw (m, outcome)

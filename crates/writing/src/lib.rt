@@ -17,7 +17,7 @@ pub enum Field {
 pub enum Answer {
     // "Success answers the number of bits without the padding".
     Bits(u32),
-    // 1 to 11: the description is refused.
+    // 1 to 10: the description is refused.
     BadDescription(Refusal),
     // 14: the description has both, absorb or scan.
     NotWritable,

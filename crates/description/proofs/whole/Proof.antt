@@ -7,8 +7,8 @@ use Rattle.description.specs.Binds as B
 use Rattle.description.specs.Inner.Names.{unmarked}
 use Rattle.description.specs.Places.{treeOf}
 use Rattle.description.specs.declared.names.Unnamed.the-variants.{Nothing}
-use Rattle.description.specs.Limits.{mostNodes, mostBinds}
-use Rattle.description.proofs.Judging.{node-placed, judge-9, judge-10, judge-11, judge-clear}
+use Rattle.description.specs.Limits.{mostNodes}
+use Rattle.description.proofs.Judging.{node-placed, judge-9, judge-10, judge-clear}
 use Rattle.description.proofs.whole.Statement.{statement}
 use Rattle.description.proofs.whole.Tie as tie
 
@@ -50,30 +50,11 @@ returns-2 c =
     let s = n .before .before .before .before .before .before in
     sym (judge-10 _ _ _ _ (s .pre .0) (s .pre .1) (s .pre .2) (none-left (n .before)) (subst (λ (k : ℕ). 0 < k) (n .needs .ensures) (c .if1 .taken)))
 
-binds-requires : tie.Need-binds-requires
-binds-requires c κs =
-    let s = c .before .before .before .before .before .before .before in
-    node-placed _ _ _ _ (s .pre .0) (s .pre .1) (s .pre .2) _ (omega (arith, s .pre .1))
-
-cast-t13 : tie.Need-cast-t13
-unfolding mostNodes
-cast-t13 c = omega (arith, c .before .before .before .before .before .before .before .before .before .pre .2 .few)
-
 returns-3 : tie.Need-returns-3
-unfolding mostBinds
 returns-3 c =
-    let b = c .before in
-    let s = b .before .before .before .before .before .before .before .before in
-    sym (judge-11 _ _ _ _ (s .pre .0) (s .pre .1) (s .pre .2) (none-left (b .before .before .before)) (nothing-needed (b .before))
-    (subst (λ (k : ℕ). mostBinds < k) (b .binds .ensures .0) (c .if2 .taken)))
-
-returns-4 : tie.Need-returns-4
-unfolding mostBinds
-returns-4 c =
-    let b = c .before in
-    let s = b .before .before .before .before .before .before .before .before in
-    sym (judge-clear _ _ _ _ (s .pre .0) (s .pre .1) (s .pre .2) (none-left (b .before .before .before)) (nothing-needed (b .before))
-    (subst (λ (k : ℕ). k ≤ mostBinds) (b .binds .ensures .0) (c .if2 .left)))
+    let n = c .before in
+    let s = n .before .before .before .before .before .before in
+    sym (judge-clear _ _ _ _ (s .pre .0) (s .pre .1) (s .pre .2) (none-left (n .before)) (nothing-needed c))
 
 pub whole-spec : {M : Type 1} → statement M
 whole-spec =
@@ -87,7 +68,4 @@ whole-spec =
     needs-requires
     cast-t11
     returns-2
-    binds-requires
-    cast-t13
-    returns-3
-    returns-4)
+    returns-3)

@@ -35,6 +35,6 @@ pub record Whole (desc starts : List ℕ) (flags : List Bool) (n : ℕ) : Type 0
   pub few : n ≤ mostNodes
   pub ends : length desc ≤ start desc n
 
--- What 9, 10 and 11 leave of nodes that were parsed.
+-- What 9 and 10 leave of nodes that were parsed.
 unfoldable pub judged : List Node → examined.Examined
 judged nodes = elim (treeRefusal nodes) [ some r ↦ examined.the-variants.Refused r | none ↦ examined.the-variants.Nodes (length nodes) ]

@@ -1,4 +1,6 @@
 // The lowest number read: w bits at a bit offset, as an unsigned or a two's complement number.
+#![tactic(auto)]
+
 ghost use Rattle.std.specs.Prelude.{◌≡◌, ◌+◌, ◌^◌, ◌≤◌, ◌<◌, leb};
 ghost use Rattle.bits.specs.Bits.{total, bit, number};
 ghost use Rattle.bits.specs.Whole.{twos_complement};

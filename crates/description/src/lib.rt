@@ -1,4 +1,6 @@
 // A description's bytes: refusals, and the check.
+#![tactic(auto)]
+
 mod binds;
 mod fields;
 pub mod kinds;

@@ -1,8 +1,7 @@
 -- Binds and wheres want their first child to be a number, and its kind byte says whether it is.
-use borrow.Author.Rules.{rules}
 use mathlib.Core.Bool.{Bool, true, false, not, ◌||◌}
 use mathlib.Core.List.{List, [], ◌∷◌}
-use mathlib.Core.Logic.{◌⊎◌, ⊎_elim, inl, inr}
+use mathlib.Core.Logic.{◌⊎◌, ⊎_elim}
 use mathlib.Core.Path.{◌≡◌, refl, sym, ap, subst, ◌∙◌}
 use Prim.Native.Nat.{ℕ, ◌+◌, ◌≤◌, ◌<◌}
 use native.Mathlib.Nat.{add-zero}
@@ -18,8 +17,7 @@ use Rattle.description.specs.Places.{start, nodes_to, kind_of, Found, Placed}
 use Rattle.description.proofs.Rows.{number_at, wants_first, wants_none, child-smaller, count-bytes}
 use Rattle.description.proofs.Numbered.{nodes-at}
 use Rattle.description.proofs.Standing.{found-placed}
-use Rattle.description.proofs.nodes.some_no_number.Statement.{statement}
-use Rattle.description.proofs.nodes.some_no_number.Tie as tie
+use Rattle.description.proofs.nodes.some_no_number.Goals as goal
 
 module _ (d starts : List ℕ) (at n : ℕ) where
   begins : node_end d at ≤ length d → at < length d
@@ -64,55 +62,35 @@ module _ (d starts : List ℕ) (at n : ℕ) where
         or-none true = refl
         or-none false = refl
 
-shared-slice-read-kind : tie.Need-shared-slice-read-kind
-shared-slice-read-kind c = let s = c.before.before.before in begins _ s.args.starts.now _ s.args.n s.requires.0.0
+pub bounds-desc-at : goal.bounds-desc-at
+bounds-desc-at c = begins _ c.args.starts.now _ c.args.n c.requires.at_in_bounds.0
 
-add-child : tie.Need-overflow-add-child
+pub overflow_add-child : goal.overflow_add-child
 unfolding most_bytes node_end
-add-child c = omega arith
+overflow_add-child c = omega arith
 
-shared-slice-read-child : tie.Need-shared-slice-read-child
+pub bounds-desc-at-in-5 : goal.bounds-desc-at-in-5
 unfolding byte
-shared-slice-read-child c =
-    let s = c.before.before.before.before.before in
-    inside _ _ _ _ s.requires.0.0 s.requires.1.0 s.requires.1.1 c.before.match.keys1
+bounds-desc-at-in-5 c =
+    inside _ _ _ _ c.requires.at_in_bounds.0 c.requires.at_value c.requires.found c.in-5.is
 
-cast-child : tie.Need-overflow-cast-child
-cast-child c =
-    let a = c.before.before.before.before.before.args in
-    omega (arith, c.shared-slice-known4.given (a.at + 1))
+pub overflow_cast-child : goal.overflow_cast-child
+overflow_cast-child c =
+    let a = c.args in
+    omega (arith, c.shared_slice_known-in-5-1.given (a.at + 1))
 
-kind-of-requires : tie.Need-kind-of-requires
+pub kind_of-requires : goal.kind_of-requires
 unfolding byte
-kind-of-requires c κs =
-    let s = c.before.before.before.before.before in
-    placed _ _ _ _ s.requires.0.0 s.requires.1.0 s.requires.1.1 c.before.match.keys1 s.requires.0.1 s.requires.0.2
+kind_of-requires c =
+    placed _ _ _ _ c.requires.at_in_bounds.0 c.requires.at_value c.requires.found c.in-5.is c.requires.at_in_bounds.1 c.requires.at_in_bounds.2
 
-is-number-requires : tie.Need-is-number-requires
-is-number-requires c κs = search rules
-
-returns : tie.Need-returns
+pub returns-in-5 : goal.returns-in-5
 unfolding byte
-returns c =
-    let at = c.before.before.before in
-    let s = at.before.before.before.before in
-    ap not (c.is_number.ensures ∙ ap is_number_kind c.before.kind-of.ensures)
-    ∙ answer _ _ _ _ s.requires.0.0 s.requires.1.0 s.requires.1.1 at.match.keys1
+returns-in-5 c =
+    ap not (c.is_number.ensures ∙ ap is_number_kind c.kind_of.ensures)
+    ∙ answer _ _ _ _ c.requires.at_in_bounds.0 c.requires.at_value c.requires.found c.in-5.is
 
-returns-2 : tie.Need-returns-2
+pub returns-in_default : goal.returns-in_default
 unfolding byte
-returns-2 c =
-    no-want _ c.before.before.before.before.args.starts.now _ _ (λ e. c.match.rest.1 (inl e)) (λ e. c.match.rest.1 (inr e))
-
-pub some-no-number-spec : {M : Type 1} → statement M
-some-no-number-spec =
-    tie.close
-    (tie.spec
-    shared-slice-read-kind
-    add-child
-    shared-slice-read-child
-    cast-child
-    kind-of-requires
-    is-number-requires
-    returns
-    returns-2)
+returns-in_default c =
+    no-want _ c.args.starts.now _ _ (grind arith) (grind arith)

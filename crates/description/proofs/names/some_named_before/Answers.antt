@@ -14,15 +14,8 @@ use Rattle.description.specs.Limits.{most_nodes}
 use Rattle.description.specs.Inner.Names.{some_marked, marked}
 use Rattle.description.proofs.Children.{children-all, children-next, children-none}
 use Rattle.description.proofs.Choice.{or_left_false, or_right_false}
-use Rattle.description.proofs.names.some_named_before.Statement.{statement}
-use Rattle.description.proofs.names.some_named_before.Tie as tie
-
--- what is left from j on, with the flags as they are, answers what the whole does
-record Left (d : List ℕ) (i k : ℕ) (named₀ named : List Bool) (j : ℕ) : Type 0 where
-  within : j ≤ k
-  tested : some_marked named (children_at d (i + j) (k - j)) ≡ some_marked named₀ (children_at d i k)
-  marks : marked named (children_at d (i + j) (k - j)) ≡ marked named₀ (children_at d i k)
-  below : some_not_smaller most_nodes (children_at d (i + j) (k - j)) ≡ false
+use Rattle.description.proofs.names.some_named_before.Invariants.{Left}
+use Rattle.description.proofs.names.some_named_before.Goals as goal
 
 none_left : (d : List ℕ) (i k : ℕ) (named₀ named : List Bool) (j : ℕ) → Left d i k named₀ named j → k ≤ j
     → (false ≡ some_marked named₀ (children_at d i k)) × (named ≡ marked named₀ (children_at d i k))
@@ -65,77 +58,56 @@ module _ (d : List ℕ) (i k : ℕ) (named₀ named : List Bool) (j : ℕ) (l : 
         below = or_right_false (leb most_nodes child) (some_not_smaller most_nodes later) not-above;
       }
 
-abbrev invariant-loop : tie.invariant-loop
-invariant-loop desc i k named₀ j₀ named j = Left desc i k named₀ named j
-
-abbrev decreases-loop : tie.decreases-loop
-decreases-loop desc i k named₀ j₀ named j = k - j
-
-loop-holds : tie.Need-loop-init invariant-loop decreases-loop
-loop-holds c =
+pub loop-j-init : goal.loop-j-init
+loop-j-init c =
     let a = c.args in
     let all = children-all a.desc.now a.i a.k in
     record {
       within = omega arith;
       tested = ap (some_marked a.named.now) all;
       marks = ap (marked a.named.now) all;
-      below = ap (some_not_smaller most_nodes) all ∙ c.requires.1;
+      below = ap (some_not_smaller most_nodes) all ∙ c.requires.k_value;
     }
 
-add-c : tie.Need-overflow-add-c invariant-loop decreases-loop
-add-c c = omega arith
+pub overflow_add-c : goal.overflow_add-c
+overflow_add-c c = omega arith
 
-shared-slice-read-c : tie.Need-shared-slice-read-c invariant-loop decreases-loop
-shared-slice-read-c c = omega arith
+pub bounds-desc-i : goal.bounds-desc-i
+bounds-desc-i c = omega arith
 
-cast-c : tie.Need-overflow-cast-c invariant-loop decreases-loop
-cast-c c =
-    let a = c.before.before.before.args in
-    omega (arith, c.shared-slice-known.given (a.i + c.before.before.loop.j))
+pub overflow_cast-c : goal.overflow_cast-c
+overflow_cast-c c =
+    let a = c.args in
+    omega (arith, c.shared_slice_known-1.given (a.i + c.loop-j.j))
 
-element-copy-out-if1 : tie.Need-element-copy-out-if1 invariant-loop decreases-loop
-element-copy-out-if1 c = a-node _ _ _ _ _ _ c.before.before.loop.invariant c.before.loop-test.true
+pub bounds-named-c : goal.bounds-named-c
+bounds-named-c c = a-node _ _ _ _ _ _ c.loop-j.invariant c.loop-j-test.true
 
-returns : tie.Need-returns invariant-loop decreases-loop
+pub returns-then-named-c : goal.returns-then-named-c
+returns-then-named-c c =
+    record {
+      value = seen _ _ _ _ _ _ c.loop-j.invariant c.loop-j-test.true c.if-named-c.true;
+      named_after = λ e. absurd (true≢false e);
+    }
+
+pub bounds-named-c-in-loop-j : goal.bounds-named-c-in-loop-j
+bounds-named-c-in-loop-j c =
+    a-node _ _ _ _ _ _ c.loop-j.invariant c.loop-j-test.true
+
+pub overflow_add-j : goal.overflow_add-j
+overflow_add-j c = omega arith
+
+pub loop-j-smaller : goal.loop-j-smaller
+loop-j-smaller c = omega arith
+
+pub loop-j-preserved : goal.loop-j-preserved
+loop-j-preserved c =
+    on _ _ _ _ _ _ c.loop-j.invariant c.loop-j-test.true c.if-named-c.false
+
+pub returns : goal.returns
 returns c =
-    let at = c.before.before.before in
-    (seen _ _ _ _ _ _ at.before.loop.invariant at.loop-test.true c.if1.true, λ e. absurd (true≢false e))
-
-element-write-named : tie.Need-element-write-named invariant-loop decreases-loop
-element-write-named c =
-    let at = c.before.before.before in
-    a-node _ _ _ _ _ _ at.before.loop.invariant at.loop-test.true
-
-add-j : tie.Need-overflow-add-j invariant-loop decreases-loop
-add-j c = omega arith
-
-loop-less : tie.Need-loop-smaller invariant-loop decreases-loop
-loop-less c = omega arith
-
-loop-again : tie.Need-loop-preserved invariant-loop decreases-loop
-loop-again c =
-    let at = c.before.before.before in
-    on _ _ _ _ _ _ at.before.loop.invariant at.loop-test.true c.if1.false
-
-returns-2 : tie.Need-returns-2 invariant-loop decreases-loop
-returns-2 c =
-    let end = none_left _ _ _ _ _ _ c.before.loop.invariant c.loop-test.false in
-    (end.0, λ e. end.1)
-
-pub some-named-before-spec : {M : Type 1} → statement M
-some-named-before-spec =
-    tie.close
-    (tie.spec
-    invariant-loop
-    decreases-loop
-    loop-holds
-    add-c
-    shared-slice-read-c
-    cast-c
-    element-copy-out-if1
-    returns
-    element-write-named
-    add-j
-    loop-less
-    loop-again
-    returns-2)
+    let end = none_left _ _ _ _ _ _ c.loop-j.invariant c.loop-j-test.false in
+    record {
+      value = end.0;
+      named_after = λ e. end.1;
+    }

@@ -7,7 +7,7 @@ ghost use Rattle.bits.specs.Whole.{twos_complement};
 ghost use Rattle.bits.specs.Lowest.{missing_bits, lowest_unsigned, lowest_signed};
 
 // What a number read finds.
-#[derive(Drop)]
+#[derive(Clone, Copy)]
 pub enum Lowest {
     // The bits are all there: their number.
     Number(i64),

@@ -3,7 +3,7 @@ ghost use Rattle.std.specs.Prelude.{◌≡◌};
 ghost use Rattle.description.specs.Bodies.{child_count, body_of, is_number_kind};
 
 // The body of a kind: its bytes, and how many children it begins with.
-#[derive(Drop)]
+#[derive(Clone, Copy)]
 pub enum Body {
     Known { bytes: usize, children: usize },
     Unknown,

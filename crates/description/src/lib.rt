@@ -27,7 +27,7 @@ pub const MOST_BINDS: usize = 31;
 
 // Why a description is refused: the first of document 01's reasons, in its order. A case holds the node that it gives, where 01 does not fix
 // that number. 11 is "not used again".
-#[derive(Drop)]
+#[derive(Clone, Copy)]
 pub enum Refusal {
     // 1: description empty or over 1,024 bytes.
     EmptyOrTooLong,
@@ -52,14 +52,14 @@ pub enum Refusal {
 }
 
 // What the check says.
-#[derive(Drop)]
+#[derive(Clone, Copy)]
 pub enum Verdict {
     Accepted,
     Refused(Refusal),
 }
 
 // What the check says to a reader: how many nodes an accepted description has.
-#[derive(Drop)]
+#[derive(Clone, Copy)]
 pub enum Examined {
     Nodes(usize),
     Refused(Refusal),

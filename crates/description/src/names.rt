@@ -42,7 +42,7 @@ pub fn some_named_before(desc: &[u8], i: usize, k: usize, named: &mut [bool; MOS
 }
 
 // The lowest node below the root that is not named.
-#[derive(Drop)]
+#[derive(Clone, Copy)]
 pub enum Unnamed {
     Node(u8),
     Nothing,

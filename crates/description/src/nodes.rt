@@ -11,14 +11,14 @@ ghost use Rattle.description.specs.Inner.Steps.{Whole, counted, step_of};
 use crate::{MOST_NODES, Refusal, fields, kinds, names, places};
 
 // What a parse finds: how many nodes there are, or the refusal at which it stops.
-#[derive(Drop)]
+#[derive(Clone, Copy)]
 pub enum Parsed {
     Nodes(usize),
     Stopped(Refusal),
 }
 
 // One node: where the next begins, or its refusal.
-#[derive(Drop)]
+#[derive(Clone, Copy)]
 pub enum Step {
     Next(usize),
     Stop(Refusal),

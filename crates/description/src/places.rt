@@ -5,7 +5,7 @@ ghost use Rattle.description.specs.Kinds.{row_of};
 ghost use Rattle.description.specs.Places.{kind_of, field_of, operand_of, meant, Placed};
 
 // An operand: a constant, or the number bound by the k-th enclosing bind counted outward from 0.
-#[derive(Drop)]
+#[derive(Clone, Copy)]
 pub enum Operand {
     Constant(i64),
     Bound(usize),

@@ -2,14 +2,14 @@
 ghost use Rattle.std.specs.Prelude.{◌≡◌, ◌+◌, ◌%◌, ◌^◌, ◌≤◌, pos, ◌≢◌};
 ghost use Rattle.bits.specs.Whole.{modulo, word};
 ghost use Rattle.description.specs.Kinds.{relation, operator};
-ghost use Rattle.rules.specs.Numbers.{holds, result};
+ghost use Rattle.rules.specs.Numbers.{holds, result as result_of};
 
 // 2 to the power 32.
 const WORDS: u64 = 4294967296;
 
 // "number (low 32 bits)"
 pub fn word_of(z: i64) -> u32
-    ensures* { λ r. ⌜ r ≡ word z ⌝ }
+    ensures { result ≡ word z }
 {
     if z < 0 {
         // the bits of -(n + 1) are those of n, each the other way round
@@ -21,7 +21,7 @@ pub fn word_of(z: i64) -> u32
 
 // "equal, not equal, less, at most, greater, at least"
 pub fn in_relation(number: u8, a: i64, b: i64) -> bool
-    ensures* { λ r. ⌜ r ≡ holds (relation number) a b ⌝ }
+    ensures { result ≡ holds (relation number) a b }
 {
     match number {
         1 => a != b,
@@ -36,26 +36,27 @@ pub fn in_relation(number: u8, a: i64, b: i64) -> bool
 // "a + b or a - b, kept modulo 2 to the power w"
 pub fn computed(w: u8, number: u8, a: i64, b: i64) -> i64
     requires { w ≤ 32 }
-    ensures* { λ r. ⌜ r ≡ pos (modulo w (result (operator number) a b)) ⌝ }
+    ensures { result ≡ pos (modulo w (result_of (operator number) a b)) }
 {
     remainder(on_words(number, word_of(a), word_of(b)), w)
 }
 
 // "a + b or a - b" on the numbers' words, past either end of 32 bits.
 fn on_words(number: u8, x: u32, y: u32) -> u32
-    ensures* { λ r. ⌜ (number ≡ 1 → (r + y) % 2 ^ 32 ≡ x) × ((number ≢ 1) → r ≡ (x + y) % 2 ^ 32) ⌝ }
+    ensures less { number ≡ 1 → (result + y) % 2 ^ 32 ≡ x }
+    ensures more { number ≢ 1 → result ≡ (x + y) % 2 ^ 32 }
 {
     if number == 1 {
-        std::num::wrapping_sub_u32(x, y)
+        x.wrapping_sub(y)
     } else {
-        std::num::wrapping_add_u32(x, y)
+        x.wrapping_add(y)
     }
 }
 
 // The remainder by 2 to the power w.
 fn remainder(n: u32, w: u8) -> i64
     requires { w ≤ 32 }
-    ensures* { λ r. ⌜ r ≡ pos (n % 2 ^ w) ⌝ }
+    ensures { result ≡ pos (n % 2 ^ w) }
 {
     (n as u64 % (1u64 << w)) as i64
 }

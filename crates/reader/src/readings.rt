@@ -15,14 +15,14 @@ pub const FAIL: u32 = 2;
 const MOST_COUNTED: u32 = 65536;
 
 // A node that is read. Of the places for numbers lent the first `free` are free; the numbers stand after them, the nearest bind's first.
-#[derive(Drop)]
+#[derive(Clone, Copy)]
 pub struct At {
     pub node: usize,
     pub free: usize,
 }
 
 // What a node gives: end, errors, code and number, and how many entries it has.
-#[derive(Drop)]
+#[derive(Clone, Copy)]
 pub struct Reading {
     pub end: u32,
     pub errors: u32,
@@ -32,7 +32,7 @@ pub struct Reading {
 }
 
 // A node's own entry, but for its size.
-#[derive(Drop)]
+#[derive(Clone, Copy)]
 pub struct Own {
     pub node: usize,
     pub begin: u32,
@@ -44,7 +44,7 @@ pub struct Own {
 }
 
 // What the rounds of a sequence give so far, and how many entries the sequence then has, its own included.
-#[derive(Drop)]
+#[derive(Clone, Copy)]
 pub struct Rounds {
     pub end: u32,
     pub elements: u32,

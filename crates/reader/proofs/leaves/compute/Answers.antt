@@ -20,16 +20,16 @@ field_of-operator-requires c =
 pub value_of-a-requires : goal.value_of-a-requires
 unfolding row_of kinds
 value_of-a-requires c = record {
-      placed = (c.requires.0, body_bytes _ _ _ c.requires.0 10 7 c.requires.1 (lit≤ tt));
-      free_in_bounds = omega (arith, c.requires.2, (compute-needs _ _ _ c.requires.0 c.requires.1).0);
-    }
+  placed = (c.requires.0, body_bytes _ _ _ c.requires.0 10 7 c.requires.1 (lit≤ tt));
+  free_in_bounds = omega (arith, c.requires.2, (compute-needs _ _ _ c.requires.0 c.requires.1).0);
+}
 
 pub value_of-b-requires : goal.value_of-b-requires
 unfolding row_of kinds
 value_of-b-requires c = record {
-      placed = (c.requires.0, body_bytes _ _ _ c.requires.0 10 12 c.requires.1 (lit≤ tt));
-      free_in_bounds = omega (arith, c.requires.2, (compute-needs _ _ _ c.requires.0 c.requires.1).1);
-    }
+  placed = (c.requires.0, body_bytes _ _ _ c.requires.0 10 12 c.requires.1 (lit≤ tt));
+  free_in_bounds = omega (arith, c.requires.2, (compute-needs _ _ _ c.requires.0 c.requires.1).1);
+}
 
 pub computed-requires : goal.computed-requires
 computed-requires c =
@@ -43,5 +43,5 @@ returns c =
     to_z-of_z (sfits_of {w = w64} c.computed.type_inv)
     ∙ c.computed.ensures
     ∙ same _ _ _ _ _ _ _ _ c.field_of-w.ensures c.field_of-operator.ensures
-    (to_z-of_z (sfits_of {w = w64} c.value_of_lem.type_inv) ∙ c.value_of_lem.ensures)
+    (to_z-of_z (sfits_of {w = w64} c.value_of-a.type_inv) ∙ c.value_of-a.ensures)
     (to_z-of_z (sfits_of {w = w64} c.value_of-b.type_inv) ∙ c.value_of-b.ensures)

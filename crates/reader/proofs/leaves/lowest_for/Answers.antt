@@ -1,5 +1,5 @@
 -- The test of the kind is that of `number_for`.
-use Rattle.std.proofs.Common.{rules, eq-eqb, ne_eqb}
+use Rattle.std.proofs.Common.{eq-eqb, ne_eqb}
 use Rattle.reader.proofs.leaves.lowest_for.Goals as goal
 
 pub returns-then-kind-eq2 : goal.returns-then-kind-eq2

@@ -1,5 +1,5 @@
 -- The words of the operands are added or subtracted past 2 ^ 32, and the remainder by 2 ^ w leaves what it leaves of the numbers themselves.
-use Rattle.std.proofs.Common.{◌≡◌, ℕ, ◌+◌, ◌%◌, ◌^◌, ◌<◌, ◌≤◌, ℤ, pos, ◌+ℤ◌, ◌-ℤ◌, ap, ◌∙◌, arith, to_z-of_z, w64, rules}
+use Rattle.std.proofs.Common.{◌≡◌, ℕ, ◌+◌, ◌%◌, ◌^◌, ◌<◌, ◌≤◌, ℤ, pos, ◌+ℤ◌, ◌-ℤ◌, ap, ◌∙◌, arith, to_z-of_z, w64}
 use borrow.Author.Rules.{sfits_of}
 use native.Mathlib.Decide.{dec_lt, ℕ_discrete}
 use lib.ListN.{get_or-eq_default}
@@ -44,4 +44,4 @@ returns c =
     let a = c.args in
     to_z-of_z (sfits_of {w = w64} c.remainder.type_inv) ∙ c.remainder.ensures
     ∙ by_number a.w c.requires a.a a.b _ _ (c.word_of.ensures ∙ ap word (to_z-of_z c.ranges.a)) (c.word_of-2.ensures ∙ ap word (to_z-of_z c.ranges.b)) _
-    a.number c.on_words.type_inv c.on_words.ensures
+    a.number c.on_words.type_inv (c.on_words.ensures.less, c.on_words.ensures.more)

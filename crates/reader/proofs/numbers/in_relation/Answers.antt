@@ -40,5 +40,4 @@ returns-in-5 c = rw (c.in-5.is, to_z-of_z c.ranges.a, to_z-of_z c.ranges.b)
 pub returns-in_default : goal.returns-in_default
 unfolding holds relation relations
 returns-in_default c =
-    let n = c.in_default.rest in
-    rw (equal-else c.args.number n.0.0.0.0.1 n.0.0.0.1 n.0.0.1 n.0.1 n.1) (same_bits _ _ c.ranges.a c.ranges.b)
+    rw (equal-else c.args.number (omega arith) (omega arith) (omega arith) (omega arith) (omega arith)) (same_bits _ _ c.ranges.a c.ranges.b)

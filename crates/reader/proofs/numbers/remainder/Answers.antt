@@ -1,5 +1,5 @@
 -- `1 << w` is 2 ^ w, which 64 bits hold, and the remainder is below it.
-use Rattle.std.proofs.Common.{◌≡◌, ℕ, ◌*◌, ◌%◌, ◌^◌, ◌<◌, ◌≤◌, ap, ◌∙◌, mod-lt, mod-eq_of_lt, one-mul, arith, pow_pos, pow_mono, w64, rules}
+use Rattle.std.proofs.Common.{◌≡◌, ℕ, ◌*◌, ◌%◌, ◌^◌, ◌<◌, ◌≤◌, ap, ◌∙◌, mod-lt, mod-eq_of_lt, one-mul, arith, pow_pos, pow_mono, w64}
 use mir.Facts.{to_z_pos}
 use Rattle.reader.proofs.numbers.remainder.Goals as goal
 
@@ -10,8 +10,8 @@ module _ (w : ℕ) (h : w ≤ 32) where
   small : (n : ℕ) → n % 2 ^ w < 2 ^ 63
   small n = omega (arith, mod-lt n (pow_pos w), pow_mono {j = 32} h)
 
-rem-result : tie.Need-nonzero-rem-result
-rem-result c = rw (shifted c.args.w c.requires) (pow_pos c.args.w)
+pub nonzero_rem-result : goal.nonzero_rem-result
+nonzero_rem-result c = rw (shifted c.args.w c.requires) (pow_pos c.args.w)
 
 pub overflow_cast-result-3 : goal.overflow_cast-result-3
 overflow_cast-result-3 c = rw (shifted c.args.w c.requires) (record { sfits = small c.args.w c.requires c.args.n })

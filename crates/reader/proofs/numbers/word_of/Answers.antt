@@ -1,5 +1,5 @@
 -- A number below 0 is -(n + 1), and -1 less it is n; one that is not is itself.
-use Rattle.std.proofs.Common.{◌≡◌, ℕ, ◌-◌, ◌%◌, ◌^◌, ◌<◌, true, ℤ, pos, negsuc, ◌-ℤ◌, sym, ap, ◌∙◌, arith, to_z-of_z, w64, SFits, to_z, of_z, rules}
+use Rattle.std.proofs.Common.{◌≡◌, ℕ, ◌-◌, ◌%◌, ◌^◌, ◌<◌, true, ℤ, pos, negsuc, ◌-ℤ◌, sym, ap, ◌∙◌, arith, to_z-of_z, w64, SFits, to_z, of_z}
 use lib.Signed.{lt_z, mag}
 use mir.Facts.{to_z_pos}
 use Rattle.bits.specs.Whole.{modulo, word}

@@ -23,10 +23,10 @@ is-constant lent z x is = ap (value_of lent) is
 
 -- the operand that was answered is bound
 module _ (c : In-Bound) where
-  is : bound c.k-1.given.0.0 ≡ operand_of c.args.desc.now c.args.at.node c.args.j
-  is = sym (ap meant c.k-1.given.1) ∙ c.operand_of.ensures
+  is : bound c.in-Bound.k ≡ operand_of c.args.desc.now c.args.at.node c.args.j
+  is = sym (ap meant c.in-Bound.is) ∙ c.operand_of.ensures
 
-  inside : c.args.at.free + c.k-1.given.0.0 < length c.args.lent.now
+  inside : c.args.at.free + c.in-Bound.k < length c.args.lent.now
   inside = there c.args.lent.now _ _ _ is c.requires.free_in_bounds
 
 pub overflow_add-i : goal.overflow_add-i

@@ -1,5 +1,5 @@
 -- A bind's number is stored in the last free place, in front of the numbers lent before; any other kind lends nothing.
-use Rattle.std.proofs.Common.{◌≡◌, ℕ, suc, ◌-◌, ◌<◌, ◌≤◌, cond, eqb, List, ◌∷◌, length, drop, set, ℤ, pos, sym, refl, ap, ◌∙◌, ap₂, arith, drop-cons, get_or-set_same, drop-set-lt, lt-length-set, to_z-of_z, rules, eq-eqb, ne_eqb}
+use Rattle.std.proofs.Common.{◌≡◌, ℕ, suc, ◌-◌, ◌<◌, ◌≤◌, cond, eqb, List, ◌∷◌, length, drop, set, ℤ, pos, sym, refl, ap, ◌∙◌, ap₂, arith, drop-cons, get_or-set_same, drop-set-lt, lt-length-set, to_z-of_z, eq-eqb, ne_eqb}
 use native.Mathlib.Nat.{sub-zero}
 use Rattle.description.specs.Inner.Children.{binding}
 use Rattle.rules.specs.Entries.{fail}

@@ -1,5 +1,5 @@
 -- The four words of each table are those of the node's own entry, put in the place that was kept for it.
-use Rattle.std.proofs.Common.{◌≡◌, ℕ, suc, ◌≤◌, List, [], ◌∷◌, length, ℤ, ap, ◌∙◌, ap₂, arith, to_z-of_z, w64, rules}
+use Rattle.std.proofs.Common.{◌≡◌, ℕ, suc, ◌≤◌, List, [], ◌∷◌, length, ℤ, ap, ◌∙◌, ap₂, arith, to_z-of_z, w64}
 use borrow.Author.Rules.{sfits_of}
 use lib.Seq.{sets}
 use Rattle.bits.specs.Whole.{word}

@@ -1,5 +1,5 @@
 -- A few times a number of 32 bits is one of 64.
-use Rattle.std.proofs.Common.{le_of_lt, mul-le-mul_right, arith, rules}
+use Rattle.std.proofs.Common.{le_of_lt, mul-le-mul_right, arith}
 use Rattle.reader.proofs.tables.first_word.Goals as goal
 
 pub overflow_mul-at : goal.overflow_mul-at

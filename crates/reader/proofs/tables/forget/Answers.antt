@@ -1,5 +1,5 @@
 -- What is cleared lies between where the two entries begin, or the table's end.
-use Rattle.std.proofs.Common.{◌≡◌, ℕ, ◌-◌, ◌≤◌, min, List, ◌++◌, length, take, drop, replicate, ap, ◌∙◌, ap₂, mul-le-mul_left, arith, rules}
+use Rattle.std.proofs.Common.{◌≡◌, ℕ, ◌-◌, ◌≤◌, min, List, ◌++◌, length, take, drop, replicate, ap, ◌∙◌, ap₂, mul-le-mul_left, arith}
 use borrow.Rule.Slice.PartMut.{mid_of, put_mid, mid_len, Post-is}
 use Rattle.reader.specs.Inner.Windows.{forgotten}
 use Rattle.reader.proofs.tables.forget.Goals as goal
@@ -13,12 +13,6 @@ module _ (c : After-first_word-to) where
 
 pub slice_bounds-clear-count : goal.slice_bounds-clear-count
 slice_bounds-clear-count c = order c
-
-part-clear-start : tie.Need-slice-bounds-clear-start
-part-clear-start c = order c
-
-part-clear-end : tie.Need-slice-bounds-clear-end
-part-clear-end c = search rules
 
 -- the part that came back is clear
 cleared : (xs ys : List ℕ) (a b from to : ℕ) → from ≡ min a (length xs) → to ≡ min b (length xs) → from ≤ to

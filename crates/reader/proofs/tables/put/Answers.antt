@@ -1,5 +1,5 @@
 -- There is room for four words, or nothing is to be shown.
-use Rattle.std.proofs.Common.{set, arith, lt-length-set, rules}
+use Rattle.std.proofs.Common.{set, arith, lt-length-set}
 use Rattle.reader.proofs.tables.put.Goals as goal
 
 pub returns-then-table-lt4 : goal.returns-then-table-lt4

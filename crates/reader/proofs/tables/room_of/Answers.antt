@@ -1,15 +1,15 @@
 -- The smaller of two lengths divided by 4, and never above 65,535.
-use Rattle.std.proofs.Common.{◌≡◌, min, ⊎_elim, arith}
+use Rattle.std.proofs.Common.{arith}
 use Rattle.rules.specs.Tables.{room}
 use Rattle.reader.proofs.tables.room_of.Goals as goal
-
-smaller : (c : tie.Joined1) → c.if-values-descriptors.words ≡ min c.before.args.values c.before.args.descriptors
-smaller c = ⊎_elim (λ w. omega (arith, w.0.taken, w.1)) (λ w. omega (arith, w.0.left, w.1)) c.if-values-descriptors.branch
+use Rattle.reader.proofs.tables.room_of.Goals.{then-values-descriptors, else-values-descriptors}
 
 pub returns-then-room-lt-MOST_ENTRIES : goal.returns-then-room-lt-MOST_ENTRIES
 unfolding room
-returns-then-room-lt-MOST_ENTRIES c = omega (arith, smaller c.before, c.if-room-lt-MOST_ENTRIES.true)
+returns-then-room-lt-MOST_ENTRIES c =
+    elim c.if-values-descriptors.branch [ then-values-descriptors w ↦ omega arith | else-values-descriptors w ↦ omega arith ]
 
 pub returns-else-room-lt-MOST_ENTRIES : goal.returns-else-room-lt-MOST_ENTRIES
 unfolding room
-returns-else-room-lt-MOST_ENTRIES c = omega (arith, smaller c.before, c.if-room-lt-MOST_ENTRIES.false)
+returns-else-room-lt-MOST_ENTRIES c =
+    elim c.if-values-descriptors.branch [ then-values-descriptors w ↦ omega arith | else-values-descriptors w ↦ omega arith ]

@@ -5,7 +5,7 @@ ghost use Rattle.writing.specs.Bits.{bytes_for, in_width, packed};
 ghost use Rattle.writer.specs.Inner.Packing.{Packs, most_at};
 
 // How far a buffer is written: `at` bytes stand in it, and the low `held` bits of `acc` are still to come; what is above them does not count.
-#[derive(Drop)]
+#[derive(Clone, Copy)]
 pub struct Packing {
     pub at: usize,
     pub held: usize,

@@ -1,4 +1,6 @@
 // The writer: one call puts the numbers of a value table back into bits, in the layout that a description says.
+#![tactic(auto)]
+
 mod buffers;
 mod entries;
 mod fields;

@@ -29,10 +29,10 @@ pub fn some_unwritable(
     let mut k: usize = 0;
     while k < n {
         let field = to_write(desc, starts, k);
-        if is_unwritable(&field) {
+        if is_unwritable(field) {
             return true;
         }
-        let w = width_of(&field);
+        let w = width_of(field);
         widths[k] = w;
         mosts[k] = most_of(w);
         halves[k] = half_of(field);
@@ -56,8 +56,8 @@ fn to_write(desc: &[u8], starts: &[usize], node: usize) -> Field
     }
 }
 
-fn is_unwritable(field: &Field) -> bool
-    ensures { result ≡ is_unwritable field.now }
+fn is_unwritable(field: Field) -> bool
+    ensures { result ≡ is_unwritable field }
 {
     match field {
         Field::Nothing => false,
@@ -67,13 +67,13 @@ fn is_unwritable(field: &Field) -> bool
     }
 }
 
-fn width_of(field: &Field) -> usize
-    ensures { result ≡ width_of field.now }
+fn width_of(field: Field) -> usize
+    ensures { result ≡ width_of field }
 {
     match field {
         Field::Nothing => 0,
-        Field::Bits(w) => *w as usize,
-        Field::Signed(w) => *w as usize,
+        Field::Bits(w) => w as usize,
+        Field::Signed(w) => w as usize,
         Field::Unwritable => 0,
     }
 }

@@ -3,7 +3,7 @@
 use description::Refusal;
 
 // What a node of a description is to the writer.
-#[derive(Drop)]
+#[derive(Clone, Copy)]
 pub enum Field {
     // Nothing of it is stored: its entries are passed over.
     Nothing,
@@ -16,7 +16,7 @@ pub enum Field {
 }
 
 // What a call of the writer answers.
-#[derive(Drop)]
+#[derive(Clone, Copy)]
 pub enum Answer {
     // "Success answers the number of bits without the padding".
     Bits(u32),

@@ -1,4 +1,6 @@
 // What a host calls through the static library, as host/rippleshrug.h declares it for C: the check, a call of the reader, and one of the writer.
+#![tactic(auto)]
+
 ghost use Rattle.std.specs.Prelude.{◌≡◌, length};
 ghost use Rattle.reader.specs.Answers.{stated_by};
 ghost use Rattle.rules.specs.Outcome.{outcome};
@@ -21,7 +23,7 @@ pub extern "C" fn rippleshrug_check_slice(desc: &[u8]) -> u32
 
 // "refusal 0, node 0, count and end", or a refusal's: the four numbers of a call, laid out as C lays out a struct.
 #[repr(C)]
-#[derive(Drop)]
+#[derive(Clone, Copy)]
 pub struct Numbers {
     pub refusal: u32,
     pub node: u32,
@@ -76,7 +78,7 @@ fn in_numbers(answer: Answer) -> Numbers
 
 // "the number of bits without the padding", or a refusal: the three numbers of a call of the writer, laid out as C lays out a struct.
 #[repr(C)]
-#[derive(Drop)]
+#[derive(Clone, Copy)]
 pub struct Bits {
     pub refusal: u32,
     pub node: u32,

@@ -1,5 +1,6 @@
 // Writing records back as definitions, with their laws and the round trip: specs/ and proofs/. The code here is what an answer can be.
 #![tactic(auto)]
+
 use description::Refusal;
 
 // What a node of a description is to the writer.

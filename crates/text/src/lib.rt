@@ -1,4 +1,6 @@
 // What the listing prints, as bytes in a buffer that is lent.
+#![tactic(auto)]
+
 mod lines;
 mod puts;
 
@@ -8,7 +10,7 @@ ghost use Rattle.reader.specs.Answers.{said, stated_by};
 ghost use Rattle.rules.specs.Outcome.{outcome};
 ghost use Rattle.text.specs.Inner.Lengths.{most_text};
 ghost use Rattle.text.specs.Listing.{printed, printed_outcome, table_words, listing};
-ghost use Rattle.text.specs.Listing.{listed as Listing·listed};
+ghost use Rattle.text.specs.Listing.{listed as listed_text};
 ghost use Rattle.text.specs.Put.{Put};
 
 use description::{MOST_BYTES, refusals};
@@ -46,8 +48,8 @@ fn list_into(given: &[u8], text: &mut [u8]) -> usize
 
 // What follows a stated length n.
 fn listed(n: usize, bytes: &[u8], text: &mut [u8]) -> usize
-    ensures put { Put text.old 0 (Listing·listed n bytes.now) text.new result }
-    ensures bytes_len_bound { length (Listing·listed n bytes.now) ≤ most_text }
+    ensures put { Put text.old 0 (listed_text n bytes.now) text.new result }
+    ensures bytes_len_bound { length (listed_text n bytes.now) ≤ most_text }
 {
     if n == 0 || MOST_BYTES < n {
         return lines::refused(text, 1, 0);

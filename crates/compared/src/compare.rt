@@ -1,10 +1,11 @@
 // One reading, with what was expected of it.
-use libc::STDOUT_FILENO;
 use reader::Answer;
+use std::io::Write;
 
-// How many readings were run, and how many came out as expected.
-#[derive(Drop)]
+// How many readings were run, and how many came out as expected; and where they are told.
+#[derive(Clone, Copy)]
 pub struct Tally {
+    pub rt: HostRuntime,
     pub readings: u32,
     pub same: u32,
 }
@@ -40,16 +41,13 @@ pub fn with_tables(
     let answer = reader::read(desc, input, values, descriptors);
     let mut text = [0u8; 512];
     let length = text::call(answer, values, descriptors, &mut text);
-    shown(name, expected, &text[..length]);
+    shown(t, name, expected, &text[..length]);
     let from = 4 * entries_of(answer) as usize;
     if !clear_from(values, from) || !clear_from(descriptors, from) {
-        io::write_all(
-            STDOUT_FILENO,
-            b"and words after the last entry that are not 0\n",
-        );
+        put(t, b"and words after the last entry that are not 0\n");
         return tallied(t, false);
     }
-    tallied(t, check::same(expected, &text[..length]))
+    tallied(t, expected == &text[..length])
 }
 
 fn entries_of(answer: Answer) -> u32 {
@@ -73,17 +71,26 @@ fn clear_from(table: &[u32], from: usize) -> bool {
     true
 }
 
-fn shown(name: &[u8], expected: &[u8], found: &[u8]) {
-    io::write_all(STDOUT_FILENO, name);
-    io::write_all(STDOUT_FILENO, b"\nexpected\n");
-    io::write_all(STDOUT_FILENO, expected);
-    io::write_all(STDOUT_FILENO, b"found\n");
-    io::write_all(STDOUT_FILENO, found);
-    io::write_all(STDOUT_FILENO, b"\n");
+fn shown(t: Tally, name: &[u8], expected: &[u8], found: &[u8]) {
+    put(t, name);
+    put(t, b"\nexpected\n");
+    put(t, expected);
+    put(t, b"found\n");
+    put(t, found);
+    put(t, b"\n");
+}
+
+// Where a write fails, nothing is told of it.
+fn put(t: Tally, bytes: &[u8]) {
+    match t.rt.stdout().write_all(bytes) {
+        Ok(()) => {}
+        Err(_) => {}
+    }
 }
 
 fn tallied(t: Tally, is_same: bool) -> Tally {
     Tally {
+        rt: t.rt,
         readings: one_more(t.readings),
         same: if is_same { one_more(t.same) } else { t.same },
     }
@@ -95,8 +102,9 @@ fn one_more(n: u32) -> u32 {
 
 // The last line.
 pub fn counted(t: Tally) {
-    io::print_decimal(STDOUT_FILENO, t.readings as u64);
-    io::write_all(STDOUT_FILENO, b" readings, ");
-    io::print_decimal(STDOUT_FILENO, t.same as u64);
-    io::write_all(STDOUT_FILENO, b" as expected\n");
+    let Tally { rt, readings, same } = t;
+    match println!(rt; "{readings} readings, {same} as expected") {
+        Ok(()) => {}
+        Err(_) => {}
+    }
 }

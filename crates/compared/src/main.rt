@@ -1,5 +1,7 @@
 // Runs, through the proved reader, the readings that document 01 gives and others that are easy to get wrong. Prints what was expected of each
 // and what was found, and a last line that counts them.
+#![tactic(auto)]
+
 mod case_a;
 mod compare;
 mod easily_wrong;
@@ -9,8 +11,9 @@ mod tables;
 
 use compare::Tally;
 
-fn main() {
+fn main(rt: HostRuntime) {
     let none = Tally {
+        rt,
         readings: 0,
         same: 0,
     };

@@ -20,10 +20,9 @@ as_rust() { # CRATE
         name=$(basename "$file" .rt)
         sed -E \
             -e '/^ghost use /d' \
-            -e '/^    (requires|ensures) \{.*⌝ \}$/d' \
-            -e '/^    (requires|ensures) \{/,/⌝ \}$/d' \
-            -e 's/std::num::wrapping_(add|sub)_u32\((\w+), (\w+)\)/\2.wrapping_\1(\3)/g' \
-            -e 's/^(pub )?(struct|enum) /#[derive(Clone, Copy)]\n&/' \
+            -e '/^ *#!?\[(tactic|cycle)\(/d' \
+            -e '/^    (requires|ensures)( \w+)? \{.* \}$/d' \
+            -e '/^    (requires|ensures)( \w+)? \{/,/ \}$/d' \
             -e "s/\bcrate::/crate::same::$1::/g" \
             -e 's/(^|[^:[:alnum:]_])(bits|description|writing)::/\1crate::same::\2::/g' \
             "$file" >"$out/same/$1/${name/#lib/mod}.rs"
@@ -33,10 +32,7 @@ as_rust() { # CRATE
 build() {
     command -v rustc >/dev/null || fail "rustc is not on the PATH"
     mkdir -p "$out"
-    rt staticlib host >"$out/staticlib.log" 2>&1 || {
-        tail -n 20 "$out/staticlib.log" >&2
-        fail "'rt staticlib host' failed"
-    }
+    bash host/library.sh
     local crate program
     for crate in bits description reader writing writer; do
         as_rust "$crate"

@@ -14,11 +14,7 @@ library=target/staticlib/libhost.a
 strict=(-Wall -Wextra -pedantic -Werror -O2)
 
 build_library() {
-    mkdir -p target
-    rt staticlib host >target/staticlib.log 2>&1 || {
-        tail -n 20 target/staticlib.log >&2
-        fail "'rt staticlib host' failed"
-    }
+    bash host/library.sh
     rm -rf "$out"
     mkdir -p "$out/cases"
 }

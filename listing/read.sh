@@ -26,10 +26,7 @@ esac
 length=$(wc -c <"$work/description")
 [ "$length" -le 65535 ] || fail "$1 has $length bytes, which two bytes of length cannot say; a description has at most 1,024"
 
-(cd "$root" && rt check listing >"$work/log" 2>&1) || {
-    tail -n 20 "$work/log" >&2
-    fail "'rt check listing' failed"
-}
+bash "$root/listing/build.sh"
 # shellcheck disable=SC2059
 {
     printf "$(printf '\\%03o\\%03o' $((length / 256)) $((length % 256)))"

@@ -1,4 +1,4 @@
-//! Where `rt staticlib host` writes the library that is compared.
+//! Where host/library.sh writes the library that is compared.
 
 fn main() {
     println!("cargo:rustc-link-search=native={}/../target/staticlib", env!("CARGO_MANIFEST_DIR"));

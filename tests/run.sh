@@ -12,11 +12,7 @@ fail() {
 }
 
 command -v cargo >/dev/null || fail "cargo is not on the PATH"
-mkdir -p target
-rt staticlib host >target/staticlib.log 2>&1 || {
-    tail -n 20 target/staticlib.log >&2
-    fail "'rt staticlib host' failed"
-}
+bash host/library.sh
 CARGO_TARGET_DIR=target/tests cargo build --release --offline --locked --quiet --manifest-path tests/Cargo.toml
 program=target/tests/release/rippleshrug-tests
 

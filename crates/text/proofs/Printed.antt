@@ -96,14 +96,14 @@ module _ (n : ℕ) (bytes : List ℕ) where
   pub listed_empty : n ≡ 0 → listed n bytes ≡ refused_line 1 0
   listed_empty e = refused-one (or_left (eqb n 0) (ltb most_bytes n) (eq-eqb n 0 e))
 
-  pub listed-long : 1024 < n → listed n bytes ≡ refused_line 1 0
+  pub listed-long : ltb 1024 n ≡ true → listed n bytes ≡ refused_line 1 0
   unfolding most_bytes
-  listed-long h = refused-one (or_right (eqb n 0) (ltb most_bytes n) (lt-ltb 1024 n h))
+  listed-long t = refused-one (or_right (eqb n 0) (ltb most_bytes n) t)
 
-  module _ (some : n ≡ 0 → ⊥) (few : n ≤ 1024) where
+  module _ (some : n ≡ 0 → ⊥) (few : ltb 1024 n ≡ false) where
     accepted-length : (eqb n 0 || ltb most_bytes n) ≡ false
     unfolding most_bytes
-    accepted-length = rw (ne_eqb n 0 some, le-ltb 1024 n few)
+    accepted-length = rw (ne_eqb n 0 some, few)
 
     pub listed-short : length bytes < n → listed n bytes ≡ short_input
     unfolding listed

@@ -33,5 +33,5 @@ bash "$root/listing/build.sh"
     cat "$work/description" "$work/input"
 } >"$work/given"
 
-# A program in Rattle has no exit status of its own. `cat` has one: it fails where the output does.
+# The program's status is 0 whatever happens. That of `cat` is not: it fails where the output does.
 "$root/target/bin/listing" <"$work/given" | cat

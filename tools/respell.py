@@ -83,7 +83,9 @@ def spelling(own, known):
             out += ("-" if joined else "_") + parts[i]
         return out
 
-    return {it: LEMMAS.get(it, new(it)) for it in own if LEMMAS.get(it, new(it)) != it}
+    # first_round is the lemma's name only as long as the definition is firstRound.
+    lemmas = LEMMAS if "firstRound" in own else {}
+    return {it: lemmas.get(it, new(it)) for it in own if lemmas.get(it, new(it)) != it}
 
 
 def turn(text, table):
@@ -149,7 +151,7 @@ def main():
             older["-".join([head, *rest])] = table.get(it, it)
     older = {k: v for k, v in older.items() if k not in now} | table
     changed = 0
-    for path in antt_files("specs") + antt_files("proofs") + sorted(glob.glob("crates/*/src/**/*.rt", recursive=True)) + sorted(glob.glob("crates/*/must-fail/*.edit")) + ["README.md"] + sorted(glob.glob("docs/**/*.md", recursive=True)):
+    for path in antt_files("specs") + antt_files("proofs") + sorted(glob.glob("crates/*/src/**/*.rt", recursive=True)) + sorted(glob.glob("crates/*/must-fail/*.edit")) + ["README.md"] + sorted(set(glob.glob("docs/**/*.md", recursive=True)) - {"docs/PORT.md"}):
         with open(path, encoding="utf-8") as f:
             text = f.read()
         if path.endswith(".antt"):

@@ -63,25 +63,25 @@ module _ (at : ℕ → Entry) (j : ℕ) (P : Option Place → Type 0) where
 
   -- The parts of a sequence, by turns element and separator.
   module _ (element separator : ℕ → Reading) (done : ℕ → ℕ → Bool) (en sn : ℕ)
-      (eh : (p : ℕ) → Headed en p (element p)) (sh : (p : ℕ) → Headed sn p (separator p)) (inElement inSeparator : ℕ → Option Place)
-      (ef : (p : ℕ) → Finds (element p).entries inElement) (sf : (p : ℕ) → Finds (separator p).entries inSeparator) where
-    after_by_turns : (left count b p : ℕ) → ByTurns (rounds_after element separator done left count b p).entries inSeparator inElement
+      (eh : (p : ℕ) → Headed en p (element p)) (sh : (p : ℕ) → Headed sn p (separator p)) (in_element in_separator : ℕ → Option Place)
+      (ef : (p : ℕ) → Finds (element p).entries in_element) (sf : (p : ℕ) → Finds (separator p).entries in_separator) where
+    after_by_turns : (left count b p : ℕ) → ByTurns (rounds_after element separator done left count b p).entries in_separator in_element
     unfolding rounds_after next_round ended part
-    after_by_turns zero count b p = none_by_turns inSeparator inElement
+    after_by_turns zero count b p = none_by_turns in_separator in_element
     after_by_turns (suc left) count b p =
         either_way (eqb b p || done count p)
-        (λ t. rw (rounds_stop element separator done (suc left) count b p t) (none_by_turns inSeparator inElement))
+        (λ t. rw (rounds_stop element separator done (suc left) count b p t) (none_by_turns in_separator in_element))
         (λ t.
         let q = (separator p).end in
         rw (rounds-next element separator done left count b p t)
-        (turn-enough (sh p) _ inSeparator inElement (sf p)
-        (turn-enough (eh q) _ inElement inSeparator (ef q) (after_by_turns left (suc count) p (element q).end))))
+        (turn-enough (sh p) _ in_separator in_element (sf p)
+        (turn-enough (eh q) _ in_element in_separator (ef q) (after_by_turns left (suc count) p (element q).end))))
 
-    pub rounds_by_turns : (left o : ℕ) → ByTurns (rounds element separator done left o).entries inElement inSeparator
+    pub rounds_by_turns : (left o : ℕ) → ByTurns (rounds element separator done left o).entries in_element in_separator
     unfolding first_round ended part
     rounds_by_turns left o =
         either_way (done 0 o)
-        (λ t. rw (rounds_empty element separator done left o t) (none_by_turns inElement inSeparator))
+        (λ t. rw (rounds_empty element separator done left o t) (none_by_turns in_element in_separator))
         (λ t.
         rw (rounds-first element separator done left o t)
-        (turn-enough (eh o) _ inElement inSeparator (ef o) (after_by_turns left 1 o (element o).end)))
+        (turn-enough (eh o) _ in_element in_separator (ef o) (after_by_turns left 1 o (element o).end)))

@@ -1,5 +1,5 @@
 import re,subprocess,sys
-out=subprocess.run(['python3','/work/main/wip/unused.py']+sys.argv[1:],capture_output=True,text=True).stdout
+out=subprocess.run(['python3','$REPO/wip/unused.py']+sys.argv[1:],capture_output=True,text=True).stdout
 for l in out.strip().split('\n'):
     if not l: continue
     f,mod,n=l.split(' ')

@@ -1,5 +1,5 @@
 import re,sys
-t=open('/tmp/goals').read()
+t=open('$WORK/goals').read()
 for m in re.finditer(r'(?ms)^(/work\S+('+sys.argv[1]+r')/Proof.antt:\d+:\d+: goal .*?)(?=\n/work|\nfn |\n--\n|\Z)',t):
     s=m.group(1)
     s=re.sub(r'(?ms)\n    \(computed from:.*','',s)

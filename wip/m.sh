@@ -1,6 +1,6 @@
 m () 
 { 
-    bash lab.sh /tmp/mylab && for i in 1 2;
+    bash lab.sh $WORK/mylab && for i in 1 2;
     do
         ./read | sed -n 6p;
     done;

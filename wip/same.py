@@ -1,6 +1,6 @@
 import re,os,glob
-root='/work/main/crates/'
-out='/tmp/same/src/'
+root='$REPO/crates/'
+out='$WORK/same/src/'
 def conv(t,crate):
     t=re.sub(r"\n    (requires|ensures) \{.*?⌝ \}(?=\n)","",t,flags=re.S)
     t=re.sub(r"^ghost use .*\n","",t,flags=re.M)

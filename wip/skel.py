@@ -1,5 +1,5 @@
 import sys,re,os
-log=open('/tmp/dev.log').read().split('\n')
+log=open('$WORK/dev.log').read().split('\n')
 want=sys.argv[1:]
 i=0
 while i<len(log):

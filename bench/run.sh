@@ -23,6 +23,7 @@ as_rust() { # CRATE
             -e '/^ *#!?\[(tactic|cycle)\(/d' \
             -e '/^    (requires|ensures)( \w+)? \{.* \}$/d' \
             -e '/^    (requires|ensures)( \w+)? \{/,/ \}$/d' \
+            -e 's/std::num::wrapping_(add|sub)_u32\((\w+), (\w+)\)/\2.wrapping_\1(\3)/g' \
             -e "s/\bcrate::/crate::same::$1::/g" \
             -e 's/(^|[^:[:alnum:]_])(bits|description|writing)::/\1crate::same::\2::/g' \
             "$file" >"$out/same/$1/${name/#lib/mod}.rs"

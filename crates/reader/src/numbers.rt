@@ -47,9 +47,9 @@ fn on_words(number: u8, x: u32, y: u32) -> u32
     ensures more { number ≢ 1 → result ≡ (x + y) % 2 ^ 32 }
 {
     if number == 1 {
-        x.wrapping_sub(y)
+        std::num::wrapping_sub_u32(x, y)
     } else {
-        x.wrapping_add(y)
+        std::num::wrapping_add_u32(x, y)
     }
 }
 

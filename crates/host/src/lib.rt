@@ -1,4 +1,5 @@
-// What a host calls through the static library, as host/rippleshrug.h declares it for C: the check, a call of the reader, and one of the writer.
+// What a host calls through the static library, as host/rippleshrug.h declares it for C: the check, a call of the reader, and one of the writer. The
+// crate `host_c` exports them.
 #![tactic(auto)]
 
 ghost use Rattle.std.specs.Prelude.{◌≡◌, length};

@@ -1,5 +1,5 @@
 -- Rounds with zero errors are by turns elements and separators that fit, end to end, for any readings of the two.
-use Prim.Native.Nat.{ℕ, zero, suc, ◌+◌, ◌-◌, ◌≤◌}
+use Prim.Native.Nat.{ℕ, zero, suc, ◌-◌, ◌≤◌}
 use mathlib.Core.Bool.{Bool, ◌||◌}
 use mathlib.Core.List.{[], ◌∷◌, ◌++◌, append-nil, append_assoc}
 use mathlib.Core.Logic.{◌⊎◌, inl, inr}
@@ -8,7 +8,7 @@ use native.Mathlib.Nat.{le_refl, sub-zero}
 use native.Mathlib.Omega.{arith}
 use lib.Dec.{eqb}
 use Rattle.description.proofs.Choice.{either_way}
-use Rattle.rules.specs.Entries.{Reading, any}
+use Rattle.rules.specs.Entries.{Reading}
 use Rattle.rules.specs.Fitting.{Run, Turns}
 use Rattle.rules.specs.Rounds.{Rounds, ended, part, first_round, next_round, rounds_after, rounds}
 use Rattle.rules.proofs.Heads.{Headed}

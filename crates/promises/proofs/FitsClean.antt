@@ -8,7 +8,7 @@ use native.Mathlib.Omega.{arith}
 use lib.Dec.{eqb, leb}
 use lib.IntN.{ℤ, pos}
 use borrow.Author.Tests.{eq-eqb, eqb-true}
-use Rattle.bits.specs.Bits.{total, number}
+use Rattle.bits.specs.Bits.{total}
 use Rattle.bits.specs.Whole.{word}
 use Rattle.description.specs.Check.{is_in}
 use Rattle.description.specs.Nodes.{Relation, Operand}

@@ -1,5 +1,5 @@
 -- Parts of a sequence that fit were read with zero errors, and so were its rounds, for any readings of element and separator.
-use Prim.Native.Nat.{ℕ, zero, suc, ◌+◌}
+use Prim.Native.Nat.{ℕ, zero, suc}
 use mathlib.Core.Bool.{Bool, ◌||◌}
 use mathlib.Core.List.{List, [], ◌∷◌, ◌++◌, append-nil, append_assoc}
 use mathlib.Core.Logic.{◌⊎◌, inl, inr, ⊎_elim}
@@ -7,7 +7,7 @@ use mathlib.Core.Path.{◌≡◌, refl, sym, ap, subst, ◌∙◌}
 use native.Mathlib.Omega.{arith}
 use lib.Dec.{eqb}
 use Rattle.description.proofs.Choice.{either_way}
-use Rattle.rules.specs.Entries.{Entry, Reading, any}
+use Rattle.rules.specs.Entries.{Entry, Reading}
 use Rattle.rules.specs.Fitting.{Run, Turns}
 use Rattle.rules.specs.Rounds.{Rounds, ended, part, first_round, next_round, rounds_after, rounds}
 use Rattle.rules.proofs.Errors.{any_none}

@@ -10,7 +10,7 @@ use lib.IntN.{ℤ}
 use borrow.Author.Tests.{leb-true, leb-false}
 use Rattle.bits.specs.Bits.{total}
 use Rattle.description.specs.Check.{accepted, meaning}
-use Rattle.description.specs.Trees.{Tree, bits, signed}
+use Rattle.description.specs.Trees.{Tree}
 use Rattle.description.proofs.Choice.{by_test, either_way}
 use Rattle.rules.specs.Entries.{Entry, Reading, reading}
 use Rattle.rules.specs.Outcome.{success, outcome}

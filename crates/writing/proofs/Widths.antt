@@ -5,7 +5,7 @@ use mathlib.Core.Path.{◌≡◌, refl, sym, ap, ap₂, ◌∙◌}
 use native.Mathlib.Nat.{zero-add, add-zero, suc-add, add_assoc, add-mul, mul_assoc}
 use native.Mathlib.Omega.{arith}
 use lib.ListN.{length, replicate}
-use lib.Pow.{pow-add, shr-shr, field, mod-mod-pow, mod-pow-add, low}
+use lib.Pow.{pow-add, shr-shr, field, mod-mod-pow, mod-pow-add}
 use lib.Seq.{drop_at}
 use Rattle.writing.specs.Bits.{in_width, value, packed}
 

@@ -3,7 +3,7 @@
  * Link with libhost.a, which host/library.sh writes to target/staticlib/. The check and the reader are proved to give document 01's answer for
  * every description, input and pair of tables, and the writer request 2's for every description, value table, count and buffer. They allocate
  * nothing, keep nothing between calls, own nothing that they are handed, and may be called from several threads at once where no two of them are
- * lent the same table or buffer to write to. A thread that reads wants 64 KiB of stack: the deepest description takes a third of it. */
+ * lent the same table or buffer to write to. A thread that reads wants 64 KiB of stack: the deepest description takes a quarter of it. */
 #ifndef RIPPLESHRUG_H
 #define RIPPLESHRUG_H
 

@@ -43,17 +43,18 @@ def is_walk(path):
 
 
 def declared():
-    """The names that specs/ and the lemma files declare, and those that the functions' proofs declare."""
-    own, walks = set(), set()
+    """The names that specs/ and the lemma files declare."""
+    own = set()
     for path in antt_files("specs") + antt_files("proofs"):
+        if is_walk(path):
+            continue
         with open(path, encoding="utf-8") as f:
             text = code(f.read())
         for names in DECLARED.findall(text):
             words = names.split()
-            if words[0] in MARKS:
-                continue
-            (walks if is_walk(path) else own).update(words)
-    return own, walks
+            if words[0] not in MARKS:
+                own.update(words)
+    return own
 
 
 def library():
@@ -134,7 +135,7 @@ def clashes(own, table):
 
 def main():
     check = "--check" in sys.argv[1:]
-    own, walks = declared()
+    own = declared()
     table = spelling(own, library())
     bad = clashes(own, table)
     for a, b, to in bad:
@@ -155,7 +156,7 @@ def main():
         with open(path, encoding="utf-8") as f:
             text = f.read()
         if path.endswith(".antt"):
-            new = turn(text, {k: v for k, v in table.items()} if not is_walk(path) else walk_table(text, table))
+            new = turn(text, walk_table(text, table) if is_walk(path) else table)
         elif path.endswith(".rt"):
             new = turn_rt(text, table)
         elif path.endswith(".edit"):

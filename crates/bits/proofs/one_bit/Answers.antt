@@ -15,9 +15,6 @@ pub bounds-input-o : goal.bounds-input-o
 unfolding total
 bounds-input-o c = omega arith
 
-pub overflow_cast-byte : goal.overflow_cast-byte
-overflow_cast-byte c = let a = c.args in omega (arith, c.shared_slice_known-1.given (a.o / 8 + (a.o % 8 + a.i) / 8))
-
 pub returns : goal.returns
 unfolding bit
 returns c = rw (same_byte, same_place)

@@ -1,4 +1,5 @@
 -- The tests of the length, the parse, and the tests of all nodes together.
+use borrow.Author.Rules.{rules}
 use mathlib.Core.Path.{◌≡◌, sym, ◌∙◌}
 use Prim.Native.Nat.{◌≤◌}
 use lib.ListN.{length}
@@ -38,7 +39,7 @@ module _ (c : Else-desc-gt-MOST_BYTES) where
 
 pub parse-requires : goal.parse-requires
 unfolding most_nodes
-parse-requires c = (short (goal.at.parse-requires c).Else-desc-gt-MOST_BYTES, c.parse-arg-1.given.0.1, mark_none)
+parse-requires c = (short (goal.at.parse-requires c).Else-desc-gt-MOST_BYTES, search rules, mark_none)
 
 pub whole-requires : goal.whole-requires
 whole-requires c =

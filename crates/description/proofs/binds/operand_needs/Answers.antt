@@ -4,7 +4,6 @@ use mathlib.Core.List.{List}
 use mathlib.Core.Path.{◌≡◌}
 use Prim.Native.Nat.{ℕ, ◌+◌}
 use native.Mathlib.Numerals.{add-one}
-use native.Mathlib.Omega.{arith}
 use lib.ListN.{get_or}
 use Rattle.description.specs.Binds.{needs_of}
 use Rattle.description.specs.Kinds.{byte, operand}
@@ -21,12 +20,6 @@ module _ (d : List ℕ) (i : ℕ) where
 
 pub returns-then-desc-i-eq0 : goal.returns-then-desc-i-eq0
 returns-then-desc-i-eq0 c = constant _ _ c.if-desc-i-eq0.true
-
-pub overflow_cast-result : goal.overflow_cast-result
-overflow_cast-result c = let a = c.args in omega (arith, c.shared_slice_known-2-1.given (a.i + 4))
-
-pub overflow_add-result-2 : goal.overflow_add-result-2
-overflow_add-result-2 c = let a = c.args in omega (arith, c.shared_slice_known-2-1.given (a.i + 4))
 
 pub returns : goal.returns
 returns c = bound _ _ c.if-desc-i-eq0.false

@@ -1,6 +1,6 @@
 -- The kinds below 02, the keys, and the kinds above 03 that are no key.
 use mathlib.Core.Bool.{true, false}
-use mathlib.Core.Logic.{⊎_elim, inl, inr}
+use mathlib.Core.Logic.{⊎_elim}
 use mathlib.Core.Path.{◌≡◌, refl, sym, ap}
 use native.Mathlib.Omega.{arith}
 use borrow.Author.Tests.{ne_eqb}
@@ -15,9 +15,8 @@ returns-in_default c = between (λ k. false ≡ is_number_kind k) 0 2 (refl, (re
 pub returns-in_default-2 : goal.returns-in_default-2
 unfolding is_number_kind
 returns-in_default-2 c =
-    let none = c.in_default.in_default-own.rest.1 in
     let k = c.args.kind in
-    rw (ne_eqb k 2 (omega arith), ne_eqb k 3 (omega arith), ne_eqb k 8 (λ e. none (inl e)), ne_eqb k 10 (λ e. none (inr e)))
+    rw (ne_eqb k 2 (omega arith), ne_eqb k 3 (omega arith), ne_eqb k 8 (grind arith), ne_eqb k 10 (grind arith))
 
 pub returns-in-2 : goal.returns-in-2
 unfolding is_number_kind

@@ -75,11 +75,6 @@ overflow_add-c c = omega arith
 pub bounds-desc-i : goal.bounds-desc-i
 bounds-desc-i c = omega arith
 
-pub overflow_cast-c : goal.overflow_cast-c
-overflow_cast-c c =
-    let a = c.args in
-    omega (arith, c.shared_slice_known-1.given (a.i + c.loop-j.j))
-
 pub bounds-named-c : goal.bounds-named-c
 bounds-named-c c = a-node _ _ _ _ _ _ c.loop-j.invariant c.loop-j-test.true
 

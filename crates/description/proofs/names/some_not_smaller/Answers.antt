@@ -37,11 +37,6 @@ overflow_add-i c = omega arith
 pub bounds-desc-i : goal.bounds-desc-i
 bounds-desc-i c = omega arith
 
-pub overflow_cast-desc : goal.overflow_cast-desc
-overflow_cast-desc c =
-    let a = c.args in
-    omega (arith, c.shared_slice_known-1.given (a.i + c.loop-j.j))
-
 pub returns-then-n-desc : goal.returns-then-n-desc
 returns-then-n-desc c =
     let a = c.args in

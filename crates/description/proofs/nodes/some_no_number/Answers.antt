@@ -74,11 +74,6 @@ unfolding byte
 bounds-desc-at-in-5 c =
     inside _ _ _ _ c.requires.at_in_bounds.0 c.requires.at_value c.requires.found c.in-5.is
 
-pub overflow_cast-child : goal.overflow_cast-child
-overflow_cast-child c =
-    let a = c.args in
-    omega (arith, c.shared_slice_known-in-5-1.given (a.at + 1))
-
 pub kind_of-requires : goal.kind_of-requires
 unfolding byte
 kind_of-requires c =

@@ -22,12 +22,16 @@ use Rattle.description.specs.Places.{start, kind_of, field_of, operand_of, Place
 use Rattle.description.proofs.Bodies.{body_bytes}
 use Rattle.description.proofs.Standing.{begins, field-inside}
 use Rattle.description.proofs.places.operand_of.Goals as goal
-use Rattle.description.proofs.places.operand_of.Goals.{After-shared_slice_known-3-1, After-signed}
+use Rattle.description.proofs.places.operand_of.Goals.{After-signed}
 
 -- byte i begins an operand of node's body
 module _ (d starts : List ℕ) (node j : ℕ) (p : Placed d starts node) (h : j + 5 ≤ (row_of (kind_of d node)).bytes) where
   inside : get_or starts node 0 + 1 + j + 4 < length d
   inside = omega (arith, begins d starts node p, field-inside d starts node p (j + 4) (omega arith))
+
+  -- the operand's bytes are inside the description
+  within : get_or starts node 0 + 1 + j + 4 < most_bytes
+  within = omega (arith, p.short, inside)
 
   is_bound : (k : ℕ) → (field_of d node j ≡ 0 → ⊥) → k ≡ field_of d node (j + 4) → bound k ≡ operand_of d node j
   unfolding field_of operand_of operand
@@ -59,26 +63,21 @@ pub returns-then-field_of-ne0 : goal.returns-then-field_of-ne0
 returns-then-field_of-ne0 c =
     is_bound _ _ _ _ c.requires.0 c.requires.1 _ (λ e. c.if-field_of-ne0.true (c.field_of.ensures ∙ e)) c.field_of-then-field_of-ne0.ensures
 
--- the operand's bytes are inside the description
-module _ (c : After-shared_slice_known-3-1) where
-  within : get_or c.args.starts.now c.args.node 0 + 1 + c.args.j + 4 < most_bytes
-  within = omega (arith, c.requires.0.short, inside _ _ _ _ c.requires.0 c.requires.1)
-
 pub overflow_add-i : goal.overflow_add-i
 unfolding most_bytes
-overflow_add-i c = omega (arith, within c)
+overflow_add-i c = omega (arith, within _ _ _ _ c.requires.0 c.requires.1)
 
 pub overflow_add-i-2 : goal.overflow_add-i-2
 unfolding most_bytes
-overflow_add-i-2 c = omega (arith, within c)
+overflow_add-i-2 c = omega (arith, within _ _ _ _ c.requires.0 c.requires.1)
 
 pub overflow_add-i-3 : goal.overflow_add-i-3
 unfolding most_bytes
-overflow_add-i-3 c = omega (arith, within c)
+overflow_add-i-3 c = omega (arith, within _ _ _ _ c.requires.0 c.requires.1)
 
 pub overflow_mul-i : goal.overflow_mul-i
 unfolding most_bytes
-overflow_mul-i c = omega (arith, within c)
+overflow_mul-i c = omega (arith, within _ _ _ _ c.requires.0 c.requires.1)
 
 -- the number is there
 module _ (c : After-signed) where

@@ -1,6 +1,5 @@
 -- The four words of each table are those of the node's own entry, put in the place that was kept for it.
-use Rattle.std.proofs.Common.{◌≡◌, ℕ, suc, ◌≤◌, List, [], ◌∷◌, length, ℤ, ap, ◌∙◌, ap₂, arith, to_z-of_z, w64}
-use borrow.Author.Rules.{sfits_of}
+use Rattle.std.proofs.Common.{rules, to_z, of_z, ◌≡◌, ℕ, suc, ◌≤◌, List, [], ◌∷◌, length, ℤ, ap, ◌∙◌, ap₂, arith, w64}
 use lib.Seq.{sets}
 use Rattle.bits.specs.Whole.{word}
 use Rattle.description.specs.Limits.{most_nodes}
@@ -58,7 +57,7 @@ pub returns : goal.returns
 unfolding reading
 returns c =
     let own = c.args.own in
-    let told = to_z-of_z (sfits_of {w = w64} c.struct_told-2-1.given.1.1.1.1.1.0.1) in
+    let told : to_z w64 (of_z w64 own.number) ≡ own.number = search rules in
     record {
       is = λ beneath e. ap₂ (answer own) told e;
       written = λ room place beneath e fit h.

@@ -28,16 +28,15 @@ mod same {
 use export::{by_hand, from_entries, from_intervals, Interval, Sums};
 use library::{read as proved, Answer};
 use records::{best_of, fields, outcome, Read, Record};
-use same::description::refusals;
 use std::hint::black_box;
 
 fn same_source(desc: &[u8], input: &[u8], values: &mut [u32], descriptors: &mut [u32]) -> Answer {
     let refused = |refusal, node| Answer { refusal, node, count: 0, end: 0 };
     match same::reader::read(desc, input, values, descriptors) {
-        same::reader::Answer::Success { count, end } => Answer { refusal: 0, node: 0, count, end },
-        same::reader::Answer::BadDescription(r) => refused(refusals::number(r).into(), refusals::node(r).into()),
-        same::reader::Answer::InputTooLong => refused(12, 0),
-        same::reader::Answer::NoRoom => refused(13, 0),
+        Ok(same::reader::Success { count, end }) => Answer { refusal: 0, node: 0, count, end },
+        Err(same::reader::Refused::BadDescription(r)) => refused(r.number().into(), r.node().into()),
+        Err(same::reader::Refused::InputTooLong) => refused(12, 0),
+        Err(same::reader::Refused::NoRoom) => refused(13, 0),
     }
 }
 

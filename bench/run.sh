@@ -19,11 +19,13 @@ as_rust() { # CRATE
     for file in "crates/$1"/src/*.rt; do
         name=$(basename "$file" .rt)
         sed -E \
-            -e '/^ghost use /d' \
+            -e '/^impl(<.*>)? Model for /,/^\}$/d' \
+            -e '/^use std::marker::Model;$/d' \
+            -e '/^ *ghost /d' \
             -e '/^ *#!?\[(tactic|cycle)\(/d' \
-            -e '/^    (requires|ensures)( \w+)? \{.* \}$/d' \
-            -e '/^    (requires|ensures)( \w+)? \{/,/ \}$/d' \
-            -e 's/std::num::wrapping_(add|sub)_u32\((\w+), (\w+)\)/\2.wrapping_\1(\3)/g' \
+            -e '/^ *#\[derive\(Drop\)\]$/d' \
+            -e '/^ +(requires|ensures)( \w+)? \{.* \}$/d' \
+            -e '/^ +(requires|ensures)( \w+)? \{/,/ \}$/d' \
             -e "s/\bcrate::/crate::same::$1::/g" \
             -e 's/(^|[^:[:alnum:]_])(bits|description|writing)::/\1crate::same::\2::/g' \
             "$file" >"$out/same/$1/${name/#lib/mod}.rs"

@@ -26,8 +26,7 @@ mod writer;
 
 use library::Written;
 use records::{best_of, fields, outcome, Record};
-use same::description::refusals;
-use same::writing::Answer;
+use same::writing::Refused;
 use std::hint::black_box;
 
 type Write = fn(&[u8], &[u32], usize, &mut [u8]) -> Written;
@@ -35,11 +34,11 @@ type Write = fn(&[u8], &[u32], usize, &mut [u8]) -> Written;
 fn same_source(desc: &[u8], values: &[u32], count: usize, buffer: &mut [u8]) -> Written {
     let refused = |refusal, node| Written { refusal, node, bits: 0 };
     match same::writer::write(desc, values, count, buffer) {
-        Answer::Bits(bits) => Written { refusal: 0, node: 0, bits },
-        Answer::BadDescription(r) => refused(refusals::number(r).into(), refusals::node(r).into()),
-        Answer::NotWritable => refused(14, 0),
-        Answer::WrongTable => refused(15, 0),
-        Answer::NoSpace => refused(16, 0),
+        Ok(bits) => Written { refusal: 0, node: 0, bits },
+        Err(Refused::BadDescription(r)) => refused(r.number().into(), r.node().into()),
+        Err(Refused::NotWritable) => refused(14, 0),
+        Err(Refused::WrongTable) => refused(15, 0),
+        Err(Refused::NoSpace) => refused(16, 0),
     }
 }
 

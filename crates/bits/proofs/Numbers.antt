@@ -1,5 +1,5 @@
 -- Laws of the number that a run of bits is, for every width.
-use mathlib.Core.Path.{◌≡◌, refl}
+use mathlib.Core.Path.{◌≡◌}
 use mathlib.Core.List.{List}
 use Prim.Native.Nat.{ℕ, zero, suc, ◌+◌, ◌*◌, ◌^◌, ◌≤◌, ◌<◌}
 use native.Mathlib.Nat.{lt_of_lt_of_le}
@@ -15,10 +15,6 @@ module _ (input : List ℕ) where
   bit_below k = omega arith
 
   module _ (o : ℕ) where
-    pub number-none : number input o 0 ≡ 0
-    unfolding number
-    number-none = refl
-
     -- one bit more at the end
     pub number_more : (w : ℕ) → number input o (w + 1) ≡ 2 * number input o w + bit input (o + w)
     unfolding number

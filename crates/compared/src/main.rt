@@ -12,24 +12,21 @@ mod tables;
 use compare::Tally;
 
 fn main(rt: HostRuntime) {
-    let none = Tally {
-        rt,
-        readings: 0,
-        same: 0,
-    };
-    let t = case_a::turns(none);
-    let t = case_a::others(t);
-    let t = readings::eithers(t);
-    let t = readings::sequences(t);
-    let t = readings::numbers(t);
-    let t = readings::missing(t);
-    let t = readings::refusals(t);
-    let t = easily_wrong::abandoned(t);
-    let t = easily_wrong::one_from_each_side(t);
-    let t = easily_wrong::whole_round(t);
-    let t = easily_wrong::binds(t);
-    let t = tables::rooms(t);
-    let t = tables::unequal(t);
-    let t = tables::inputs(t);
-    compare::counted(t);
+    let mut tally = Tally::new(&rt);
+    case_a::turns(&mut tally);
+    case_a::others(&mut tally);
+    readings::eithers(&mut tally);
+    readings::sequences(&mut tally);
+    readings::numbers(&mut tally);
+    readings::missing(&mut tally);
+    readings::refusals(&mut tally);
+    easily_wrong::abandoned(&mut tally);
+    easily_wrong::one_from_each_side(&mut tally);
+    easily_wrong::whole_round(&mut tally);
+    easily_wrong::binds(&mut tally);
+    tables::rooms(&mut tally);
+    tables::unequal(&mut tally);
+    tables::inputs(&mut tally);
+    tables::refusals(&mut tally);
+    tally.count();
 }

@@ -5,6 +5,7 @@ use mathlib.Core.Logic.{◌⊎◌, inl, inr, ⊎_elim}
 use mathlib.Core.Option.{some}
 use mathlib.Core.Path.{◌≡◌, sym, ap, subst}
 use lib.ListN.{length}
+use Rattle.std.specs.Prelude.{Result, Err}
 use Rattle.bits.specs.Bits.{total}
 use Rattle.description.specs.Check.{accepted, meaning}
 use Rattle.description.specs.Trees.{Tree}
@@ -21,22 +22,23 @@ use Rattle.promises.proofs.Missing.{missing_told}
 use Rattle.promises.proofs.Spanning.{success-spans}
 use Rattle.promises.proofs.Stuck.{never_stuck}
 use Rattle.reader.specs.Answers.{said, given}
-use Rattle.reader.specs.declared.Answer.{Answer}
-use Rattle.reader.specs.declared.Answer.TheVariants.{Success, NoRoom}
-use Rattle.contracts.proofs.Determined.{answered}
+use Rattle.reader.specs.declared.Refused.{Refused}
+use Rattle.reader.specs.declared.Refused.TheVariants.{NoRoom}
+use Rattle.reader.specs.declared.Success.{Success}
+use Rattle.contracts.proofs.Determined.{success_with, answered}
 
 -- A description that passes the check and an input up to the limit: a success with the entries and the end that the rules give, or refusal 13,
 -- and then the entries outnumber the room.
 pub caller_unstuck : (v d : ℕ) (desc input : List ℕ) (t : Tree) → meaning desc ≡ accepted t → length input ≤ most_input
-    → (a : Answer) (values descriptors : List ℕ) → given a values descriptors ≡ outcome v d desc input
+    → (a : Result Success Refused) (values descriptors : List ℕ) → given a values descriptors ≡ outcome v d desc input
     → (let r = read input t [] 0 in
-    ((length r.entries ≤ room v d) × (a ≡ Success (length r.entries) r.end)) ⊎ ((room v d < length r.entries) × (a ≡ NoRoom)))
+    ((length r.entries ≤ room v d) × (a ≡ success_with (length r.entries) r.end)) ⊎ ((room v d < length r.entries) × (a ≡ Err NoRoom)))
 caller_unstuck v d desc input t passes short a values descriptors call =
     ⊎_elim (λ s. inl (s.0, answered a values descriptors _ _ call s.1)) (λ c. inr (c.0, answered a values descriptors _ _ call c.1))
     (never_stuck v d desc input t passes short)
 
 -- A call that succeeded.
-module _ (v d : ℕ) (desc input : List ℕ) (count end : ℕ) (values descriptors : List ℕ) (call : given (Success count end) values descriptors ≡ outcome v d desc input) where
+module _ (v d : ℕ) (desc input : List ℕ) (count end : ℕ) (values descriptors : List ℕ) (call : given (success_with count end) values descriptors ≡ outcome v d desc input) where
   pub succeeds : (outcome v d desc input).answer ≡ success count end
   unfolding given said
   succeeds = ap (λ (o : Outcome). o.answer) (sym call)

@@ -7,6 +7,7 @@ use mathlib.Core.Path.{◌≡◌, refl}
 use lib.Dec.{lit≤}
 use lib.IntN.{negsuc}
 use lib.ListN.{length}
+use Rattle.std.specs.Prelude.{Result, Ok, Err}
 use Rattle.bits.specs.Bits.{total, bit}
 use Rattle.description.specs.Check.{accepted, meaning}
 use Rattle.description.specs.Nodes.{constant}
@@ -23,10 +24,11 @@ use Rattle.promises.proofs.Cases.{counters, turned, counters-tree, counters_mean
 use Rattle.writing.specs.Fields.{fields_of, some_unwritable}
 use Rattle.writing.specs.Outcome as writing
 use Rattle.writing.specs.Outcome.{given as written}
-use Rattle.writing.specs.declared.Answer.TheVariants.{Bits}
+use Rattle.writing.specs.declared.Refused.{Refused}
 use Rattle.writing.proofs.Evaluate.{evaluated as evaluating}
 use Rattle.reader.specs.Answers.{said, given}
-use Rattle.reader.specs.declared.Answer.TheVariants.{Success, NoRoom}
+use Rattle.reader.specs.declared.Refused.TheVariants.{NoRoom}
+use Rattle.contracts.proofs.Determined.{success_with}
 use Rattle.contracts.proofs.Callers.{caller_unstuck, caller_spans, caller_fits, caller_clean, caller_missing}
 use Rattle.contracts.proofs.Returns.{caller_returned}
 use Rattle.contracts.proofs.WrongReaders.{elements, entry-count, element-count}
@@ -35,14 +37,14 @@ use Rattle.contracts.proofs.WrongReaders.{elements, entry-count, element-count}
 abbrev o : Outcome
 o = outcome 20 20 counters turned
 
-turned_call : given (Success 5 32) o.values o.descriptors ≡ o
+turned_call : given (success_with 5 32) o.values o.descriptors ≡ o
 unfolding evaluated given said
 turned_call = refl
 
 turned_unstuck : (let n = length (read turned counters-tree [] 0).entries in
-    ((n ≤ 5) × (Success 5 32 ≡ Success n (read turned counters-tree [] 0).end)) ⊎ ((5 < n) × (Success 5 32 ≡ NoRoom)))
+    ((n ≤ 5) × (success_with 5 32 ≡ success_with n (read turned counters-tree [] 0).end)) ⊎ ((5 < n) × (success_with 5 32 ≡ Err NoRoom)))
 unfolding room most_input
-turned_unstuck = caller_unstuck 20 20 counters turned counters-tree counters_mean (lit≤ tt) (Success 5 32) o.values o.descriptors turned_call
+turned_unstuck = caller_unstuck 20 20 counters turned counters-tree counters_mean (lit≤ tt) (success_with 5 32) o.values o.descriptors turned_call
 
 turned-spans : Spans (entry_at o.values o.descriptors) 5 32
 unfolding total
@@ -58,7 +60,7 @@ turned-count : 5 ≡ length (read turned counters-tree [] 0).entries
 turned-count = entry-count 20 20 counters turned 5 32 o.values o.descriptors turned_call counters-tree counters_mean
 
 -- case A's table, written back into four bytes
-turned-written : written (Bits 32) turned ≡ writing.outcome 4 counters o.values 5
+turned-written : written (Ok 32) turned ≡ writing.outcome 4 counters o.values 5
 unfolding evaluating written
 turned-written = refl
 
@@ -70,17 +72,17 @@ counters-writable : some_unwritable (fields_of counters) ≡ false
 unfolding evaluating
 counters-writable = refl
 
-turned-returned : (Bits 32 ≡ Bits 32) × ((k : ℕ) → k < 32 → bit turned k ≡ bit turned k)
+turned-returned : (◌≡◌ {A = Result ℕ Refused} (Ok 32) (Ok 32)) × ((k : ℕ) → k < 32 → bit turned k ≡ bit turned k)
 unfolding evaluating
 turned-returned =
-    caller_returned 20 20 counters turned 5 32 o.values o.descriptors turned_call turned_clean_root counters-writable 4 (lit≤ tt) (Bits 32) turned
+    caller_returned 20 20 counters turned 5 32 o.values o.descriptors turned_call turned_clean_root counters-writable 4 (lit≤ tt) (Ok 32) turned
     turned-written
 
 -- case A over FF FA 00
 abbrev short : Outcome
 short = outcome 20 20 counters cut
 
-cut_call : given (Success 5 16) short.values short.descriptors ≡ short
+cut_call : given (success_with 5 16) short.values short.descriptors ≡ short
 unfolding evaluated given said
 cut_call = refl
 
@@ -98,7 +100,7 @@ elements_mean : meaning elements ≡ accepted elements-tree
 unfolding evaluated
 elements_mean = refl
 
-two_call : given (Success 4 16) two.values two.descriptors ≡ two
+two_call : given (success_with 4 16) two.values two.descriptors ≡ two
 unfolding evaluated given said
 two_call = refl
 

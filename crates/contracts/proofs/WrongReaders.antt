@@ -4,6 +4,7 @@ use mathlib.Core.List.{List, [], ◌∷◌}
 use mathlib.Core.Path.{◌≡◌, refl, sym, ap, subst, ◌∙◌}
 use native.Mathlib.Omega.{arith}
 use lib.ListN.{length}
+use Rattle.std.specs.Prelude.{Result}
 use Rattle.bits.specs.Bits.{total}
 use Rattle.description.specs.Check.{accepted, meaning}
 use Rattle.description.specs.Nodes.{Operand}
@@ -21,13 +22,13 @@ use Rattle.promises.proofs.EachEntry.{accepted-same}
 use Rattle.promises.proofs.Succeeded.{Succeeded, succeeded}
 use Rattle.promises.proofs.Tabled.{outcome-agrees}
 use Rattle.reader.specs.Answers.{given}
-use Rattle.reader.specs.declared.Answer.{Answer}
-use Rattle.reader.specs.declared.Answer.TheVariants.{Success}
+use Rattle.reader.specs.declared.Refused.{Refused}
+use Rattle.reader.specs.declared.Success.{Success}
 use Rattle.contracts.proofs.Callers.{succeeds}
-use Rattle.contracts.proofs.Determined.{answered}
+use Rattle.contracts.proofs.Determined.{success_with, answered}
 
 -- One that refuses all: case A has to be a success.
-pub refuser : (a : Answer) (values descriptors : List ℕ) → ((count end : ℕ) → a ≡ Success count end → ⊥)
+pub refuser : (a : Result Success Refused) (values descriptors : List ℕ) → ((count end : ℕ) → a ≡ success_with count end → ⊥)
     → given a values descriptors ≡ outcome 20 20 counters turned → ⊥
 refuser a values descriptors refuses allowed = refuses 5 32 (answered a values descriptors (outcome 20 20 counters turned) (success 5 32) allowed turned-read)
 
@@ -45,14 +46,14 @@ unfolding evaluated entry_at
 other-number = refl
 
 -- what an allowed table has at an entry is what the outcome has
-same-entry : (a : Answer) (values descriptors : List ℕ) (o : Outcome) → given a values descriptors ≡ o → (i : ℕ)
+same-entry : (a : Result Success Refused) (values descriptors : List ℕ) (o : Outcome) → given a values descriptors ≡ o → (i : ℕ)
     → entry_at values descriptors i ≡ entry_at o.values o.descriptors i
 unfolding given
 same-entry a values descriptors o e i = ap (λ (o : Outcome). entry_at o.values o.descriptors i) e
 
 -- One that returns the tables of case A each time, and one that writes nothing, whatever stood in the tables: no contents serve both calls, with any
 -- answers.
-pub repeater : (a b : Answer) (values descriptors : List ℕ) → given a values descriptors ≡ outcome 20 20 counters turned
+pub repeater : (a b : Result Success Refused) (values descriptors : List ℕ) → given a values descriptors ≡ outcome 20 20 counters turned
     → given b values descriptors ≡ outcome 20 20 counters other → ⊥
 repeater a b values descriptors first second =
     let f = sym (ap (λ (e : Entry). e.number) (same-entry a values descriptors _ first 1)) in
@@ -69,7 +70,7 @@ element-numbers : (let o = outcome 16 16 elements (0x01 ∷ 0x02 ∷ []) in ((en
 unfolding evaluated entry_at
 element-numbers = (refl, refl)
 
-pub copier : (a : Answer) (values descriptors : List ℕ) → (entry_at values descriptors 3).number ≡ (entry_at values descriptors 1).number
+pub copier : (a : Result Success Refused) (values descriptors : List ℕ) → (entry_at values descriptors 3).number ≡ (entry_at values descriptors 1).number
     → given a values descriptors ≡ outcome 16 16 elements (0x01 ∷ 0x02 ∷ []) → ⊥
 copier a values descriptors copied allowed =
     let f = ap (λ (e : Entry). e.number) (same-entry a values descriptors _ allowed 1) in
@@ -79,7 +80,7 @@ copier a values descriptors copied allowed =
 
 -- One that invents the entry or element count: after every call the count is that of the entries that the rules give, and where the root is a
 -- sequence, its entry's detail is that of its rounds.
-module _ (v d : ℕ) (desc input : List ℕ) (count end : ℕ) (values descriptors : List ℕ) (call : given (Success count end) values descriptors ≡ outcome v d desc input)
+module _ (v d : ℕ) (desc input : List ℕ) (count end : ℕ) (values descriptors : List ℕ) (call : given (success_with count end) values descriptors ≡ outcome v d desc input)
     (root : Tree) (means : meaning desc ≡ accepted root) where
   abbrev s : Succeeded v d desc input count end
   s = succeeded v d desc input count end (succeeds v d desc input count end values descriptors call)

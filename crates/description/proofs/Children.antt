@@ -10,7 +10,7 @@ use borrow.Author.Tests.{leb-false, lt-leb}
 use Rattle.description.specs.Inner.Children.{children_at}
 use Rattle.description.specs.Check.{some_not_smaller}
 use Rattle.description.specs.Kinds.{byte}
-use Rattle.description.proofs.Choice.{or_left_false, or_right_false}
+use Rattle.std.proofs.lemmas.Bool.{or_parts}
 
 module _ (d : List ℕ) (i k : ℕ) where
   -- none passed yet
@@ -35,15 +35,15 @@ pub children-smaller : (d : List ℕ) (n p k j : ℕ) → some_not_smaller n (ch
 unfolding children_at some_not_smaller
 children-smaller d n p zero j e h = absurd (omega arith)
 children-smaller d n p (suc k) zero e h =
-    rw (add-zero p) (leb-false n (byte d p) (or_left_false (leb n (byte d p)) (some_not_smaller n (children_at d (p + 1) k)) e))
+    rw (add-zero p) (leb-false n (byte d p) (or_parts (leb n (byte d p)) (some_not_smaller n (children_at d (p + 1) k)) e).0)
 children-smaller d n p (suc k) (suc j) e h =
     let on : p + suc j ≡ p + 1 + j = omega arith in
-    rw on (children-smaller d n (p + 1) k j (or_right_false (leb n (byte d p)) (some_not_smaller n (children_at d (p + 1) k)) e) (omega arith))
+    rw on (children-smaller d n (p + 1) k j (or_parts (leb n (byte d p)) (some_not_smaller n (children_at d (p + 1) k)) e).1 (omega arith))
 
 -- a list that has none that is not smaller than n has none that is not smaller than m
 pub smaller-still : (n m : ℕ) (cs : List ℕ) → n ≤ m → some_not_smaller n cs ≡ false → some_not_smaller m cs ≡ false
 unfolding some_not_smaller
 smaller-still n m [] h e = refl
 smaller-still n m (c ∷ cs) h e =
-    let below = leb-false n c (or_left_false (leb n c) (some_not_smaller n cs) e) in
-    rw (lt-leb m c (omega arith)) (smaller-still n m cs h (or_right_false (leb n c) (some_not_smaller n cs) e))
+    let below = leb-false n c (or_parts (leb n c) (some_not_smaller n cs) e).0 in
+    rw (lt-leb m c (omega arith)) (smaller-still n m cs h (or_parts (leb n c) (some_not_smaller n cs) e).1)

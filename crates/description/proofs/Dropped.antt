@@ -1,21 +1,19 @@
 -- Request 4: "Show that no description reaches refusal 11 and drop it from the check. The number is not used again; no answer changes." The check
 -- with 11, as it was, stands here alone.
-use Prim.Native.Nat.{ℕ, ◌-◌, ◌≤◌}
-use mathlib.Core.Bool.{Bool, true, false, ◌||◌, true≢false}
+use Prim.Native.Nat.{ℕ, ◌-◌}
+use mathlib.Core.Bool.{true, false, ◌||◌}
 use mathlib.Core.List.{List, []}
-use mathlib.Core.Option.{Option, none, some}
-use mathlib.Core.Path.{◌≡◌, refl, ap}
+use mathlib.Core.Option.{none, some}
+use mathlib.Core.Path.{◌≡◌, ap}
 use native.Mathlib.Omega.{arith}
 use lib.Dec.{eqb, ltb}
 use lib.ListN.{length}
-use borrow.Author.Tests.{le-ltb}
 use Rattle.description.specs.Binds.{binds}
-use Rattle.description.specs.Check.{Parsed, parsed, stopped, nodes_from, tree_refusal, Meaning, accepted, refused, meaning, verdict, checked}
+use Rattle.description.specs.Check.{parsed, stopped, nodes_from, tree_refusal, Meaning, accepted, refused, meaning, verdict, checked}
 use Rattle.description.specs.Limits.{most_bytes, most_nodes, most_binds}
 use Rattle.description.specs.Nodes.{Node}
 use Rattle.description.specs.Refusals.{verdict_number, verdict_node}
 use Rattle.description.specs.Trees.{root_tree}
-use Rattle.description.specs.declared.Refusal.{Refusal}
 use Rattle.description.specs.declared.Refusal.TheVariants.{EmptyOrTooLong}
 use Rattle.description.proofs.Enclosing.{few-binds}
 
@@ -52,42 +50,10 @@ abbrev pub node_before : Meant → ℕ
 node_before (still m) = verdict_node (verdict m)
 node_before (too_many_binds root) = root
 
--- nodes around which there are no more binds than there may be
-same-tree : (nodes : List Node) → binds (root_tree nodes) ≤ most_binds
-    → tree_before nodes ≡ still (elim (tree_refusal nodes) [ some r ↦ refused r | none ↦ accepted (root_tree nodes) ])
-same-tree nodes h = unfold tree_before in go (tree_refusal nodes) (ltb most_binds (binds (root_tree nodes))) (le-ltb most_binds (binds (root_tree nodes)) h)
-  where
-    go : (o : Option Refusal) (t : Bool) → t ≡ false
-        → elim o [ some r ↦ still (refused r) | none ↦ elim t [ true ↦ too_many_binds (length nodes - 1) | false ↦ still (accepted (root_tree nodes)) ] ]
-        ≡ still (elim o [ some r ↦ refused r | none ↦ accepted (root_tree nodes) ])
-    go (some r) t e = refl
-    go none true e = absurd (true≢false e)
-    go none false e = refl
-
 -- Every byte string means what it meant with 11 among the refusals.
 pub same-meaning : (desc : List ℕ) → meaning_before desc ≡ still (meaning desc)
-unfolding meaning_before meaning
-same-meaning desc =
-    whole (eqb (length desc) 0 || ltb most_bytes (length desc)) (parse (nodes_from desc most_nodes [] 0) (few-binds desc))
-  where
-    After : Parsed → Meaning
-    After p =
-        elim p [
-          | stopped r ↦ refused r
-          | parsed nodes ↦ elim (tree_refusal nodes) [ some r ↦ refused r | none ↦ accepted (root_tree nodes) ]
-        ]
-
-    Before : Parsed → Meant
-    Before p = elim p [ stopped r ↦ still (refused r) | parsed nodes ↦ tree_before nodes ]
-
-    parse : (p : Parsed) → ((nodes : List Node) → p ≡ parsed nodes → binds (root_tree nodes) ≤ most_binds) → Before p ≡ still (After p)
-    parse (stopped r) few = refl
-    parse (parsed nodes) few = same-tree nodes (few nodes refl)
-
-    whole : (t : Bool) {b : Meant} {m : Meaning} → b ≡ still m
-        → elim t [ true ↦ still (refused EmptyOrTooLong) | false ↦ b ] ≡ still (elim t [ true ↦ refused EmptyOrTooLong | false ↦ m ])
-    whole true e = refl
-    whole false e = e
+unfolding meaning_before tree_before meaning
+same-meaning desc = grind (arith, few-binds)
 
 -- So 11 was never given,
 pub never_11 : (desc : List ℕ) (root : ℕ) → meaning_before desc ≡ too_many_binds root → ⊥

@@ -1,10 +1,10 @@
 -- What the proofs of several functions, and of the crates above, use.
 pub mod Choice
 pub mod Ranges
-mod Bodies
+pub mod Bodies
+mod Cuts
 mod Children
 mod Rows
-mod Firsts
 pub mod Refusing
 pub mod Marking
 pub mod Numbered

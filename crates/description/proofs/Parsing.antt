@@ -9,7 +9,8 @@ use native.Mathlib.Numerals.{add-one}
 use native.Mathlib.Omega.{arith}
 use lib.ListN.{length, get_or, set, get_or-append}
 use lib.Seq.{sets, sets-eq, length-sets}
-use borrow.Author.Tests.{lt-ltb, le-ltb}
+use borrow.Author.Tests.{le-ltb}
+use Rattle.std.specs.Prelude.{Ok, Err}
 use Rattle.description.specs.Check.{node_at, node_end, node_refusal, named_by, Parsed, parsed, stopped, nodes_from}
 use Rattle.description.specs.Limits.{most_nodes}
 use Rattle.description.specs.Inner.Names.{Marks}
@@ -19,9 +20,6 @@ use Rattle.description.specs.Inner.Steps.{Whole, step_of, counted}
 use Rattle.description.specs.Refusals.{refusal_node}
 use Rattle.description.specs.declared.Refusal.{Refusal}
 use Rattle.description.specs.declared.Refusal.TheVariants.{TooManyNodes}
-use Rattle.description.specs.declared.nodes.Parsed as nodes
-use Rattle.description.specs.declared.nodes.Parsed.TheVariants.{Nodes, Stopped}
-use Rattle.description.specs.declared.nodes.Step.TheVariants.{Next, Stop}
 use Rattle.description.proofs.Marking.{named_snoc}
 use Rattle.description.proofs.Numbered.{starts_length, starts_at, nodes-length}
 use Rattle.description.proofs.Reached.{stand-next}
@@ -35,26 +33,24 @@ module _ (d : List ℕ) (before : List Node) (i : ℕ) where
   module _ (h : i < length d) where
     pub from_full : nodes_from d 0 before i ≡ stopped TooManyNodes
     unfolding nodes_from
-    from_full = rw (lt-ltb i (length d) h, nodes_from)
+    from_full = grind arith
 
     pub from_stop : (left : ℕ) (r : Refusal) → node_refusal d before i ≡ some r → nodes_from d (suc left) before i ≡ stopped r
     unfolding nodes_from
-    from_stop left r e = rw (lt-ltb i (length d) h, e, nodes_from)
+    from_stop left r e = grind arith
 
     pub from_next : (left : ℕ) → node_refusal d before i ≡ none → nodes_from d (suc left) before i ≡ nodes_from d left (before ++ (node_at d i ∷ [])) (node_end d i)
     unfolding nodes_from
-    from_next left e = rw (lt-ltb i (length d) h, e, nodes_from)
+    from_next left e = grind arith
 
 -- what a step's answer says of the refusal
-pub step_stop : (o : Option Refusal) (end : ℕ) (r : Refusal) → step_of o end ≡ Stop r → o ≡ some r
+pub step_stop : (o : Option Refusal) (end : ℕ) (r : Refusal) → step_of o end ≡ Err r → o ≡ some r
 unfolding step_of
-step_stop none end r e = let z : ◌≡◌ {A = ℕ} 0 1 = cc in absurd (omega arith)
-step_stop (some q) end r e = let same : q ≡ r = cc in ap some same
+step_stop o end r e = grind arith
 
-pub step_next : (o : Option Refusal) (end p : ℕ) → step_of o end ≡ Next p → (o ≡ none) × (p ≡ end)
+pub step_next : (o : Option Refusal) (end p : ℕ) → step_of o end ≡ Ok p → (o ≡ none) × (p ≡ end)
 unfolding step_of
-step_next none end p e = (refl, cc)
-step_next (some q) end p e = let z : ◌≡◌ {A = ℕ} 0 1 = cc in absurd (omega arith)
+step_next o end p e = (grind arith, grind arith)
 
 -- one store more
 sets_snoc : (l : List ℕ) (i : ℕ) (vs : List ℕ) (v : ℕ) → sets l i (vs ++ (v ∷ [])) ≡ set (sets l i vs) (i + length vs) v
@@ -100,22 +96,18 @@ module _ (d starts₀ starts : List ℕ) (flags : List Bool) (at n : ℕ) (g : G
           ∙ get_or-append (starts_to d n) _ 0 k inside
           ∙ starts_at d n k h
 
-  pub going_length : length starts ≡ length starts₀
-  going_length = going_found.room ∙ sym g.room
-
   pub going_full : at < length d → n ≡ most_nodes → nodes_from d most_nodes [] 0 ≡ stopped TooManyNodes
-  going_full h e =
-      let none_left : most_nodes - n ≡ 0 = omega arith in
-      sym g.left ∙ ap (λ (k : ℕ). nodes_from d k (nodes_to d n) at) none_left ∙ from_full d (nodes_to d n) at h
+  going_full h e = let none_left : most_nodes - n ≡ 0 = omega arith in grind (arith, from_full d (nodes_to d n) at h, g.left)
 
   pub going_end : length d ≤ at → nodes_from d most_nodes [] 0 ≡ parsed (nodes_to d n)
   going_end h = sym g.left ∙ from_end d (nodes_to d n) at (most_nodes - n) h
 
   module _ (h : at < length d) (few : n < most_nodes) where
+    one_more : most_nodes - n ≡ suc (most_nodes - suc n)
+    one_more = omega arith
+
     pub going_stop : (r : Refusal) → node_refusal d (nodes_to d n) at ≡ some r → nodes_from d most_nodes [] 0 ≡ stopped r
-    going_stop r e =
-        let one : most_nodes - n ≡ suc (most_nodes - (n + 1)) = omega arith in
-        sym g.left ∙ ap (λ (k : ℕ). nodes_from d k (nodes_to d n) at) one ∙ from_stop d (nodes_to d n) at h (most_nodes - (n + 1)) r e
+    going_stop r e = sym g.left ∙ rw one_more (from_stop d (nodes_to d n) at h (most_nodes - suc n) r e)
 
     module _ (e : node_refusal d (nodes_to d n) at ≡ none) (flags' : List Bool) (m : Marks flags' (named_by (nodes_to d n) ++ children (node_at d at))) where
       pub going_next : Going d starts₀ (set starts n at) flags' (node_end d at) (n + 1)
@@ -157,33 +149,25 @@ module _ (d starts₀ starts : List ℕ) (flags : List Bool) (at n : ℕ) (g : G
               ∙ ap (λ (k : ℕ). nodes_from d k (nodes_to d n) at) (sym one)
               ∙ g.left
 
--- what the parse promises of its answer, of the starts and of the flags that it leaves
-abbrev pub Answers : (d starts₀ starts : List ℕ) → List Bool → nodes.Parsed → Type 0
-Answers d starts₀ starts flags r =
-    (r ≡ counted (nodes_from d most_nodes [] 0)) × ((starts ≡ placed_starts d starts₀) × ((n : ℕ) → r ≡ Nodes n → Whole d starts flags n))
-
 module _ (d starts₀ starts : List ℕ) (flags : List Bool) (at n : ℕ) (g : Going d starts₀ starts flags at n) where
   placed_by : (p : Parsed) → nodes_from d most_nodes [] 0 ≡ p → standing p ≡ n → starts ≡ placed_starts d starts₀
   unfolding placed_starts
   placed_by p e s = g.placed ∙ ap (λ (k : ℕ). sets starts₀ 0 (starts_to d k)) (sym (ap standing e ∙ s))
 
-  pub answer-stopped : (flags' : List Bool) (r : Refusal) → nodes_from d most_nodes [] 0 ≡ stopped r → refusal_node r ≡ n → Answers d starts₀ starts flags' (Stopped r)
+  -- what the parse promises of its answer and of the starts where it stops
+  pub answer-stopped : (r : Refusal) → nodes_from d most_nodes [] 0 ≡ stopped r → refusal_node r ≡ n
+      → (Err r ≡ counted (nodes_from d most_nodes [] 0)) × (starts ≡ placed_starts d starts₀)
   unfolding counted standing
-  answer-stopped flags' r e node = (
-    sym (ap counted e),
-    (placed_by (stopped r) e node, λ m same. let z : ◌≡◌ {A = ℕ} 0 1 = cc in absurd (omega arith)),
-  )
+  answer-stopped r e node = (sym (ap counted e), placed_by (stopped r) e node)
 
-  pub answer-parsed : length d ≤ at → Answers d starts₀ starts flags (Nodes n)
+  -- and, with the flags, where it reaches the end
+  pub answer-parsed : length d ≤ at → (Ok n ≡ counted (nodes_from d most_nodes [] 0)) × ((starts ≡ placed_starts d starts₀) × Whole d starts flags n)
   unfolding counted standing
   answer-parsed h =
       let e = going_end d starts₀ starts flags at n g h in (
-        sym (ap counted e ∙ ap Nodes (nodes-length d n)),
+        sym (ap counted e ∙ ap Ok (nodes-length d n)),
         (
           placed_by (parsed (nodes_to d n)) e (nodes-length d n),
-          λ m same.
-              let equal : n ≡ m = cc in
-              subst (Whole d starts flags) equal
-              (record { nodes-are = e; found = going_found d starts₀ starts flags at n g; marks = g.marks; few = g.few; ends = subst (λ (p : ℕ). length d ≤ p) g.here h }),
+          record { nodes-are = e; found = going_found d starts₀ starts flags at n g; marks = g.marks; few = g.few; ends = subst (λ (p : ℕ). length d ≤ p) g.here h },
         ),
       )

@@ -19,9 +19,13 @@ module _ (P : ℕ → Type 0) where
       go later (no f) = later (omega arith) (omega arith)
 
   -- what holds of each kind of the table, and past it
-  pub by_kind : Each 0 13 → ((k : ℕ) → 13 ≤ k → P k) → (k : ℕ) → P k
-  by_kind each past k = go (dec_lt k 13)
+  pub by_kind : P 0 → P 1 → P 2 → P 3 → P 4 → P 5 → P 6 → P 7 → P 8 → P 9 → P 10 → P 11 → P 12
+      → ((k : ℕ) → 13 ≤ k → P k) → (k : ℕ) → P k
+  by_kind a b c d e f g h i j l m n past k = go (dec_lt k 13)
     where
+      each : Each 0 13
+      each = (a, (b, (c, (d, (e, (f, (g, (h, (i, (j, (l, (m, (n, tt)))))))))))))
+
       go : Dec (k < 13) → P k
-      go (yes h) = between 0 13 each k (omega arith) h
-      go (no f) = past k (omega arith)
+      go (yes inside) = between 0 13 each k (omega arith) inside
+      go (no outside) = past k (omega arith)

@@ -14,7 +14,8 @@ use Rattle.description.specs.Limits.{most_bytes, most_nodes}
 use Rattle.description.specs.Nodes.{Node}
 use Rattle.description.specs.Places.{start, nodes_to, Stands}
 use Rattle.description.specs.Trees.{Tree, root_tree}
-use Rattle.description.proofs.Choice.{by_test, by_search, or_left_false}
+use Rattle.std.proofs.lemmas.Bool.{or_parts}
+use Rattle.description.proofs.Choice.{by_test, by_search}
 use Rattle.description.proofs.Numbered.{nodes-length}
 
 -- One node more that stands.
@@ -78,7 +79,7 @@ module _ (d : List ℕ) where
   unfolding meaning start
   said =
       by_test Said (eqb (length d) 0 || ltb most_bytes (length d)) (λ t. tt)
-      (λ f. go (eqb-false (length d) 0 (or_left_false (eqb (length d) 0) (ltb most_bytes (length d)) f)) (nodes_from d most_nodes [] 0) refl)
+      (λ f. go (eqb-false (length d) 0 (or_parts (eqb (length d) 0) (ltb most_bytes (length d)) f).0) (nodes_from d most_nodes [] 0) refl)
     where
       one : (n : ℕ) → (length d ≡ 0 → ⊥) → length d ≤ start d n → 0 < n
       one zero some_byte ends = absurd (some_byte (omega arith))

@@ -3,14 +3,14 @@ use Prim.Native.Nat.{ℕ, ◌+◌, ◌-◌, ◌≤◌, ◌<◌}
 use mathlib.Core.Bool.{true, false}
 use mathlib.Core.List.{List}
 use mathlib.Core.Path.{◌≡◌, sym, ap, ◌∙◌}
-use borrow.Author.Tests.{ltb-false, not-false}
+use borrow.Author.Tests.{leb-false, ltb-false, not-false}
 use native.Mathlib.Omega.{arith}
 use lib.ListN.{length, get_or}
 use Rattle.description.specs.Binds.{needs, binds}
 use Rattle.description.specs.Bodies.{child_count}
 use Rattle.description.specs.Inner.Children.{children_at, own_needs}
 use Rattle.description.specs.Check.{some_not_smaller, node_at, node_end}
-use Rattle.description.specs.Kinds.{row_of}
+use Rattle.description.specs.Kinds.{byte, kinds, row_of}
 use Rattle.description.specs.Limits.{most_bytes, most_nodes}
 use Rattle.description.specs.Nodes.{children}
 use Rattle.description.specs.Places.{start, nodes_to, kind_of, field_of, tree_of, Stands, Found, Placed}
@@ -48,6 +48,11 @@ module _ (d starts : List ℕ) (node : ℕ) (p : Placed d starts node) where
   pub kind-inside : start d node < length d
   kind-inside = stands.begins
 
+  -- its kind byte is in the table
+  pub kind_below : kind_of d node < length kinds
+  unfolding kind_of
+  kind_below = leb-false (length kinds) (byte d (start d node)) (tests d node stands).kind
+
   pub body_inside : start d node + 1 + (row_of (kind_of d node)).bytes ≤ length d
   unfolding node_end kind_of
   body_inside = ltb-false (length d) (node_end d (start d node)) (tests d node stands).whole
@@ -56,10 +61,6 @@ module _ (d starts : List ℕ) (node : ℕ) (p : Placed d starts node) where
   pub listed_here : (row_of (kind_of d node)).listed d (start d node + 1) ≡ true
   unfolding kind_of
   listed_here = not-false ((row_of (kind_of d node)).listed d (start d node + 1)) (tests d node stands).listed
-
-  -- byte j of its body
-  pub field-inside : (j : ℕ) → j < (row_of (kind_of d node)).bytes → start d node + 1 + j < length d
-  field-inside j h = omega (arith, body_inside)
 
   -- its child at place j
   module _ (j : ℕ) (h : j < child_count (kind_of d node)) where

@@ -6,17 +6,15 @@ use mathlib.Core.List.{List, [], ◌∷◌}
 use mathlib.Core.Path.{◌≡◌, refl, sym, ap, subst, ◌∙◌}
 use native.Mathlib.Nat.{add-zero}
 use native.Mathlib.Omega.{arith}
-use lib.Dec.{eqb, leb}
 use lib.ListN.{get_or, get_or-eq_default}
-use borrow.Author.Tests.{leb-true, eqb-true}
 use Rattle.description.specs.Binds.{needs_of, needs, binds}
 use Rattle.description.specs.Bodies.{child_count}
 use Rattle.description.specs.Inner.Children.{binding, own_needs}
-use Rattle.description.specs.Kinds.{byte, is_width, is_signed_width, relation, operator, unit_row, kinds, row_of}
+use Rattle.description.specs.Kinds.{byte, is_width, is_signed_width, is_relation, relation, is_operator, operator, unit_row, kinds, row_of}
 use Rattle.description.specs.Places.{start, kind_of, field_of, operand_of, tree_of, Placed}
 use Rattle.description.specs.Trees.{Tree, unit, bottom, bits, signed, then, bind, either, both, where', sequence, compute, absorb, scan, tree}
 use Rattle.description.proofs.Bodies.{row-past}
-use Rattle.description.proofs.Choice.{and_left, and_right, either_way}
+use Rattle.std.proofs.lemmas.Bool.{and_parts}
 use Rattle.description.proofs.Ranges.{between, by_kind}
 use Rattle.description.proofs.Standing.{listed_here, child-below, smaller-placed, tree-here, needs-here, binds-here}
 use Rattle.description.proofs.Walking.{walk-child}
@@ -24,15 +22,11 @@ use Rattle.description.proofs.Walking.{walk-child}
 -- A width that is listed.
 pub width_listed : (w : ℕ) → is_width w ≡ true → (1 ≤ w) × (w ≤ 32)
 unfolding is_width
-width_listed w e = (leb-true 1 w (and_left (leb 1 w) (leb w 32) e), leb-true w 32 (and_right (leb 1 w) (leb w 32) e))
+width_listed w e = (grind arith, grind arith)
 
 pub signed-listed : (w : ℕ) → is_signed_width w ≡ true → (1 ≤ w) × (w ≤ 32)
 unfolding is_signed_width
-signed-listed w e =
-    either_way (eqb w 8) (λ a. let h = eqb-true w 8 a in (omega arith, omega arith))
-    (λ a.
-    either_way (eqb w 16) (λ b. let h = eqb-true w 16 b in (omega arith, omega arith))
-    (λ b. let h = eqb-true w 32 (sym (rw (a, b)) ∙ e) in (omega arith, omega arith)))
+signed-listed w e = (grind arith, grind arith)
 
 module _ (d : List ℕ) (node : ℕ) where
   -- the tree of the node's child at place j
@@ -66,40 +60,11 @@ module _ (d : List ℕ) (node : ℕ) where
   as_row : (kind : ℕ) → AsRow kind
   unfolding tree row_of kinds unit_row field_of operand_of
   as_row =
-      by_kind AsRow (
-        refl,
-        (
-          refl,
-          (
-            at (bits node),
-            (
-              at (signed node),
-              (
-                pair then,
-                (
-                  pair bind,
-                  (
-                    pair either,
-                    (
-                      pair both,
-                      (
-                        at (λ b. where' node (tree_of d b) (relation (field_of d node 1)) (operand_of d node 2)),
-                        (
-                          at (λ b. sequence node (tree_of d b) (child_tree 1) (child_tree 2) (operand_of d node 3)),
-                          (
-                            at (λ b. compute node b (operator (field_of d node 1)) (operand_of d node 2) (operand_of d node 7)),
-                            (at (λ b. absorb node (tree_of d b)), (at (λ b. scan node (tree_of d b)), tt)),
-                          ),
-                        ),
-                      ),
-                    ),
-                  ),
-                ),
-              ),
-            ),
-          ),
-        ),
-      )
+      by_kind AsRow refl refl (at (bits node)) (at (signed node)) (pair then) (pair bind) (pair either) (pair both)
+      (at (λ b. where' node (tree_of d b) (relation (field_of d node 1)) (operand_of d node 2)))
+      (at (λ b. sequence node (tree_of d b) (child_tree 1) (child_tree 2) (operand_of d node 3)))
+      (at (λ b. compute node b (operator (field_of d node 1)) (operand_of d node 2) (operand_of d node 7)))
+      (at (λ b. absorb node (tree_of d b))) (at (λ b. scan node (tree_of d b)))
       past
     where
       -- the first byte of the body
@@ -147,6 +112,9 @@ module _ (d starts : List ℕ) (node : ℕ) (p : Placed d starts node) where
   pub body_bytes : (kind n : ℕ) → kind_of d node ≡ kind → n ≤ (row_of kind).bytes → n ≤ (row_of (kind_of d node)).bytes
   body_bytes kind n e h = rw e h
 
+  pub child-smaller : (j : ℕ) → j < child_count (kind_of d node) → field_of d node j < node
+  child-smaller j h = child-below d starts node p j h
+
   pub child-placed : (j : ℕ) → j < child_count (kind_of d node) → Placed d starts (field_of d node j)
   child-placed j h = smaller-placed d starts node p (field_of d node j) (child-below d starts node p j h)
 
@@ -168,6 +136,15 @@ module _ (d starts : List ℕ) (node : ℕ) (p : Placed d starts node) where
   pub number_width : (kind : ℕ) → kind_of d node ≡ kind → 2 ≤ kind → kind < 4 → field_of d node 0 ≤ 32
   number_width kind e low high = (number-range kind e low high).1
 
+  -- the relation of a where, and the operator of a compute
+  pub relation-listed : kind_of d node ≡ 8 → is_relation (field_of d node 1) ≡ true
+  unfolding row_of kinds field_of
+  relation-listed e = (and_parts _ _ (listed_as 8 e)).0
+
+  pub operator-listed : kind_of d node ≡ 10 → is_operator (field_of d node 1) ≡ true
+  unfolding row_of kinds field_of
+  operator-listed e = (and_parts _ _ (and_parts _ _ (and_parts _ _ (listed_as 10 e)).0).0).1
+
   few : byte d (start d node + 1) ≤ 32 → field_of d node 0 ≤ 32
   unfolding field_of
   few h = rw (add-zero (start d node + 1)) h
@@ -175,4 +152,4 @@ module _ (d starts : List ℕ) (node : ℕ) (p : Placed d starts node) where
   pub compute_width : kind_of d node ≡ 10 → field_of d node 0 ≤ 32
   unfolding row_of kinds
   compute_width e =
-      few (width_listed (byte d (start d node + 1)) (and_left _ _ (and_left _ _ (and_left _ _ (listed_as 10 e))))).1
+      few (width_listed (byte d (start d node + 1)) (and_parts _ _ (and_parts _ _ (and_parts _ _ (listed_as 10 e)).0).0).0).1

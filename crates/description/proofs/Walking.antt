@@ -11,9 +11,8 @@ use Rattle.description.specs.Inner.Children.{children_at, binding, own_needs}
 use Rattle.description.specs.Kinds.{byte, unit_row, kinds, row_of}
 use Rattle.description.specs.Places.{start, kind_of, field_of}
 use Rattle.description.specs.Trees.{Tree, tree}
-use Rattle.description.proofs.Bodies.{row-past, no_children, body_bytes}
+use Rattle.description.proofs.Bodies.{row-past, no_children}
 use Rattle.description.proofs.Children.{children-all, children-next, children-none}
-use Rattle.description.proofs.Rows.{count-bytes}
 use Rattle.description.proofs.Ranges.{by_kind}
 
 module _ (kind : ℕ) (step : ℕ → ℕ → ℕ) (value : ℕ → ℕ) where
@@ -69,9 +68,6 @@ module _ (d : List ℕ) (node : ℕ) (step : ℕ → ℕ → ℕ) (value : ℕ �
     pub has-child : j < children → j < child_count (kind_of d node)
     has-child h = subst (λ (n : ℕ). j < n) (l.children-are ∙ ap child_count l.kind-is) h
 
-    pub few-children : children ≤ 12
-    few-children = omega (arith, l.children-are, count-bytes kind, body_bytes kind)
-
     pub walk-next : (more : ℕ) → j < children → more ≡ max most (step (value (field_of d node j)) (binding kind j)) → Left kind children more (j + 1)
     unfolding walk field_of
     walk-next more h e =
@@ -98,8 +94,7 @@ module _ (d : List ℕ) (t : ℕ → Tree) (node i : ℕ) where
   pub needs-walk : (kind : ℕ) → Needs kind
   unfolding walk needs tree row_of kinds unit_row own_needs child_count child_counts children_at binding
   needs-walk =
-      by_kind Needs
-      (refl, (refl, (refl, (refl, (two _ _, (inside _ _, (two _ _, (two _ _, (own _ _, (three, (refl, (one _, (one _, tt))))))))))))) past
+      by_kind Needs refl refl refl refl (two _ _) (inside _ _) (two _ _) (two _ _) (own _ _) three refl (one _) (one _) past
     where
       one : (a : ℕ) → a ≡ max 0 (a - 0)
       one a = omega arith
@@ -132,8 +127,7 @@ module _ (d : List ℕ) (t : ℕ → Tree) (node i : ℕ) where
   pub binds-walk : (kind : ℕ) → Binds kind
   unfolding walk binds tree row_of kinds unit_row child_count child_counts children_at binding
   binds-walk =
-      by_kind Binds
-      (refl, (refl, (refl, (refl, (two _ _, (inside _ _, (two _ _, (two _ _, (one _, (three, (refl, (one _, (one _, tt))))))))))))) past
+      by_kind Binds refl refl refl refl (two _ _) (inside _ _) (two _ _) (two _ _) (one _) three refl (one _) (one _) past
     where
       one : (a : ℕ) → a ≡ max 0 (a + 0)
       one a = omega arith

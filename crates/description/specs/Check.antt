@@ -1,6 +1,7 @@
 -- The check. "Order: 1; then node by node from the front 4, 2, 3, 5, 6, 7, 8; then 9 to 13", of which 12 and 13 are the reader's. Request 4: "no
 -- description reaches refusal 11".
-use Rattle.std.specs.Prelude.{ℕ, zero, suc, ◌+◌, ◌-◌, Bool, true, false, not, ◌||◌, List, [], ◌∷◌, ◌++◌, eqb, leb, ltb, length, get_or}
+use Rattle.std.specs.Prelude.{ℕ, zero, suc, ◌+◌, ◌-◌, Bool, true, false, not, ◌||◌, List, [], ◌∷◌, ◌++◌, eqb, leb, ltb, length, get_or, Result, Ok, Err}
+use Rattle.std.specs.List.{list_any}
 use Rattle.std.proofs.Math.Option.{Option, none, some}
 use Rattle.description.specs.Limits.{most_bytes, most_nodes}
 use Rattle.description.specs.Nodes.{Node, unit, children, is_number, must_be_numbers}
@@ -9,8 +10,6 @@ use Rattle.description.specs.Trees.{Tree, root_tree}
 use Rattle.description.specs.Binds.{needs}
 use Rattle.description.specs.declared.Refusal.{Refusal}
 use Rattle.description.specs.declared.Refusal.TheVariants.{EmptyOrTooLong, UnknownKind, BodyCutShort, TooManyNodes, NotListed, ChildNotSmaller, ChildNamedBefore, NumberNodeWanted, NeverNamed, NoEnclosingBind}
-use Rattle.description.specs.declared.Verdict.{Verdict}
-use Rattle.description.specs.declared.Verdict.TheVariants.{Accepted, Refused}
 
 -- The refusal, where its test holds.
 unfoldable pub refuse_if : Bool → Refusal → Option Refusal
@@ -25,13 +24,11 @@ first_of (some r ∷ rest) = some r
 
 -- Whether a number is in a list.
 unfoldable pub is_in : ℕ → List ℕ → Bool
-is_in c [] = false
-is_in c (d ∷ ds) = eqb c d || is_in c ds
+is_in c = list_any (eqb c)
 
 -- Some child of the list is not smaller than node n.
 unfoldable pub some_not_smaller : ℕ → List ℕ → Bool
-some_not_smaller n [] = false
-some_not_smaller n (c ∷ cs) = leb n c || some_not_smaller n cs
+some_not_smaller n = list_any (leb n)
 
 -- Some child of the list is "named before, also twice in one node".
 unfoldable pub some_named_before : List ℕ → List ℕ → Bool
@@ -40,8 +37,7 @@ some_named_before named (c ∷ cs) = is_in c named || some_named_before (c ∷ n
 
 -- Some child of the list is no number node.
 unfoldable pub some_no_number : List Node → List ℕ → Bool
-some_no_number nodes [] = false
-some_no_number nodes (c ∷ cs) = not (is_number (get_or nodes c unit)) || some_no_number nodes cs
+some_no_number nodes = list_any (λ c. not (is_number (get_or nodes c unit)))
 
 -- The children that the nodes name.
 unfoldable pub named_by : List Node → List ℕ
@@ -121,9 +117,9 @@ meaning desc =
     ]
 
 -- "The check alone".
-unfoldable pub verdict : Meaning → Verdict
-verdict (accepted t) = Accepted
-verdict (refused r) = Refused r
+unfoldable pub verdict : Meaning → Result (Unit {0}) Refusal
+verdict (accepted t) = Ok tt
+verdict (refused r) = Err r
 
-unfoldable pub checked : List ℕ → Verdict
+unfoldable pub checked : List ℕ → Result (Unit {0}) Refusal
 checked desc = verdict (meaning desc)

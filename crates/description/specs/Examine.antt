@@ -1,15 +1,14 @@
 -- The check as a reader of records asks for it: with how many nodes there are, and where they begin.
-use Rattle.std.specs.Prelude.{ℕ, ◌-◌, ◌≤◌, ◌<◌, true, false, List, [], ◌≡◌, ltb, length}
+use Rattle.std.specs.Prelude.{ℕ, ◌-◌, ◌≤◌, ◌<◌, true, false, List, [], ◌≡◌, ltb, length, Result, Ok, Err}
 use Rattle.description.specs.Binds.{needs, binds}
 use Rattle.description.specs.Check.{nodes_from, accepted, refused, meaning}
 use Rattle.description.specs.Limits.{most_bytes, most_nodes, most_binds}
 use Rattle.description.specs.Places.{tree_of, Placed, standing, placed_starts}
-use Rattle.description.specs.declared.Examined.{Examined}
-use Rattle.description.specs.declared.Examined.TheVariants.{Nodes, Refused}
+use Rattle.description.specs.declared.Refusal.{Refusal}
 
 -- The refusal, or how many nodes an accepted description has.
-unfoldable pub examined : List ℕ → Examined
-examined desc = elim (meaning desc) [ refused r ↦ Refused r | accepted tree ↦ Nodes (standing (nodes_from desc most_nodes [] 0)) ]
+unfoldable pub examined : List ℕ → Result ℕ Refusal
+examined desc = elim (meaning desc) [ refused r ↦ Err r | accepted tree ↦ Ok (standing (nodes_from desc most_nodes [] 0)) ]
 
 -- The array of starts afterwards: as it was for a description of over 1,024 bytes, which is not parsed.
 unfoldable pub starts_after : List ℕ → List ℕ → List ℕ

@@ -1,9 +1,7 @@
 -- 01's table of refusals, 1 to 10: the number of each, and the node given. Request 4: 11 "is not used again".
-use Rattle.std.specs.Prelude.{ℕ}
+use Rattle.std.specs.Prelude.{ℕ, Result, Ok, Err}
 use Rattle.description.specs.declared.Refusal.{Refusal}
 use Rattle.description.specs.declared.Refusal.TheVariants.{EmptyOrTooLong, UnknownKind, BodyCutShort, TooManyNodes, NotListed, ChildNotSmaller, ChildNamedBefore, NumberNodeWanted, NeverNamed, NoEnclosingBind}
-use Rattle.description.specs.declared.Verdict.{Verdict}
-use Rattle.description.specs.declared.Verdict.TheVariants.{Accepted, Refused}
 
 abbrev pub refusal_number : Refusal → ℕ
 refusal_number EmptyOrTooLong = 1
@@ -30,10 +28,10 @@ refusal_node (NeverNamed n) = n
 refusal_node (NoEnclosingBind n) = n
 
 -- "The check alone gives 1 to 11 with the node, or 0 and node 0 where it accepts": since request 4, 1 to 10.
-abbrev pub verdict_number : Verdict → ℕ
-verdict_number Accepted = 0
-verdict_number (Refused r) = refusal_number r
+abbrev pub verdict_number : Result (Unit {0}) Refusal → ℕ
+verdict_number (Ok done) = 0
+verdict_number (Err r) = refusal_number r
 
-abbrev pub verdict_node : Verdict → ℕ
-verdict_node Accepted = 0
-verdict_node (Refused r) = refusal_node r
+abbrev pub verdict_node : Result (Unit {0}) Refusal → ℕ
+verdict_node (Ok done) = 0
+verdict_node (Err r) = refusal_node r

@@ -1,76 +1,60 @@
 // How many binds a subtree needs around it.
-ghost use Rattle.std.specs.Prelude.{◌≡◌, ◌+◌, ◌-◌, ◌≤◌, max, length};
+ghost use Rattle.std.specs.Prelude.{◌≡◌, ◌+◌, ◌≤◌, ◌<◌};
 ghost use Rattle.description.specs.Binds.{needs_of, needs};
+ghost use Rattle.description.specs.Bodies.{byte_of};
 ghost use Rattle.description.specs.Inner.Children.{own_needs, binding};
-ghost use Rattle.description.specs.Kinds.{row_of, operand};
-ghost use Rattle.description.specs.Limits.{most_bytes};
-ghost use Rattle.description.specs.Places.{tree_of, Placed};
+ghost use Rattle.description.specs.Kinds.{row_of};
+ghost use Rattle.description.specs.Places.{start, kind_of, operand_of, tree_of};
 
-use crate::{kinds, places};
-
-const BIND: u8 = 5;
+use crate::kinds::Kind;
+use crate::places::Nodes;
 
 // "operand names no enclosing bind": how many binds the subtree of a node needs around it. The children's node numbers fall.
-pub fn needs(desc: &[u8], starts: &[usize], node: usize) -> usize
-    requires { Placed desc.now starts.now node }
-    ensures { result ≡ needs (tree_of desc.now node) }
+pub fn needs(nodes: &Nodes, node: usize) -> usize
+    requires { node < nodes.now.count }
+    ensures { result ≡ needs (tree_of nodes.now.desc.now node) }
 {
-    let kind = places::kind_of(desc, starts, node);
-    let children = kinds::children_of(kind);
-    let mut most = own_needs(desc, kind, starts[node] + 1);
-    let mut j: usize = 0;
-    while j < children {
-        let child = places::child_of(desc, starts, node, j);
-        let needed = over(needs(desc, starts, child), binding(kind, j));
-        most = larger(most, needed);
-        j += 1;
+    let kind = nodes.kind_of(node);
+    let mut most = own_needs(nodes, node, kind);
+    for j in 0..kind.children() {
+        let needed = needs(nodes, nodes.child_of(node, j));
+        most = most.max(needed.saturating_sub(binding(kind, j)));
     }
     most
 }
 
-// How many binds the operands of a body that begins at byte i need around them.
-fn own_needs(desc: &[u8], kind: u8, i: usize) -> usize
-    requires { (length desc.now ≤ most_bytes) × (i + (row_of kind).bytes ≤ length desc.now) }
-    ensures { result ≡ own_needs desc.now kind i }
+// How many binds a node's operands need around them.
+#[tactic(auto, unfolding(crate::specs::Inner::Children::own_needs, crate::specs::Kinds::row_of, crate::specs::Kinds::kinds, crate::specs::Places::operand_of))]
+fn own_needs(nodes: &Nodes, node: usize, kind: Kind) -> usize
+    requires node { node < nodes.now.count }
+    requires kind { byte_of kind ≡ kind_of nodes.now.desc.now node }
+    ensures { result ≡ own_needs nodes.now.desc.now (byte_of kind) (start nodes.now.desc.now node + 1) }
 {
     match kind {
-        8 => operand_needs(desc, i + 2),
-        9 => operand_needs(desc, i + 3),
-        10 => larger(operand_needs(desc, i + 2), operand_needs(desc, i + 7)),
+        Kind::Where => operand_needs(nodes, node, 2),
+        Kind::Sequence => operand_needs(nodes, node, 3),
+        Kind::Compute => operand_needs(nodes, node, 2).max(operand_needs(nodes, node, 7)),
         _ => 0,
     }
 }
 
-// How many binds the operand at byte i needs around it.
-fn operand_needs(desc: &[u8], i: usize) -> usize
-    requires { (length desc.now ≤ most_bytes) × (i + 5 ≤ length desc.now) }
-    ensures { result ≡ needs_of (operand desc.now i) }
+// How many binds the operand at byte j of a node's body needs around it.
+#[tactic(auto, using(crate::proofs::Bodies::body_bytes), unfolding(crate::specs::Binds::needs_of, crate::specs::Kinds::operand, crate::specs::Places::operand_of, crate::specs::Places::field_of))]
+fn operand_needs(nodes: &Nodes, node: usize, j: usize) -> usize
+    requires node { node < nodes.now.count }
+    requires inside { j + 5 ≤ (row_of (kind_of nodes.now.desc.now node)).bytes }
+    ensures { result ≡ needs_of (operand_of nodes.now.desc.now node j) }
 {
-    if desc[i] == 0 {
+    if nodes.field_of(node, j) == 0 {
         return 0;
     }
-    desc[i + 4] as usize + 1
+    nodes.field_of(node, j + 4) as usize + 1
 }
 
 // How many binds a node puts around its child at place j: "Only the second child of a bind lies inside that binding."
-fn binding(kind: u8, j: usize) -> usize
-    ensures { result ≡ binding kind j }
+#[tactic(auto, unfolding(crate::specs::Inner::Children::binding))]
+fn binding(kind: Kind, j: usize) -> usize
+    ensures { result ≡ binding (byte_of kind) j }
 {
-    if kind != BIND {
-        return 0;
-    }
-    if j == 1 { 1 } else { 0 }
-}
-
-fn larger(a: usize, b: usize) -> usize
-    ensures { result ≡ max a b }
-{
-    if a < b { b } else { a }
-}
-
-// What of a is left over b.
-fn over(a: usize, b: usize) -> usize
-    ensures { result ≡ a - b }
-{
-    if a < b { 0 } else { a - b }
+    if kind == Kind::Bind && j == 1 { 1 } else { 0 }
 }

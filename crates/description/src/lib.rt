@@ -7,14 +7,15 @@ pub mod kinds;
 mod names;
 mod nodes;
 pub mod places;
-pub mod refusals;
 
-ghost use Rattle.std.specs.Prelude.{◌≡◌, ℕ, ◌≤◌, ◌<◌, length};
+ghost use Rattle.std.specs.Prelude.{◌≡◌, ◌≤◌, ◌<◌, IfOk, length};
 ghost use Rattle.description.specs.Check.{checked};
 ghost use Rattle.description.specs.Examine.{examined, starts_after, Readable};
 ghost use Rattle.description.specs.Inner.Steps.{judged, Whole};
 ghost use Rattle.description.specs.Limits.{most_bytes};
 ghost use Rattle.description.specs.Places.{nodes_to};
+
+use places::Nodes;
 
 // "description empty or over 1,024 bytes"
 pub const MOST_BYTES: usize = 1024;
@@ -27,7 +28,7 @@ pub const MOST_BINDS: usize = 31;
 
 // Why a description is refused: the first of document 01's reasons, in its order. A case holds the node that it gives, where 01 does not fix
 // that number. 11 is "not used again".
-#[derive(Clone, Copy)]
+#[derive(Clone, Copy, PartialEq, Eq, Debug)]
 pub enum Refusal {
     // 1: description empty or over 1,024 bytes.
     EmptyOrTooLong,
@@ -51,61 +52,92 @@ pub enum Refusal {
     NoEnclosingBind(u8),
 }
 
-// What the check says.
-#[derive(Clone, Copy)]
-pub enum Verdict {
-    Accepted,
-    Refused(Refusal),
-}
+impl Refusal {
+    ghost use Rattle.description.specs.Refusals.{refusal_number, refusal_node};
 
-// What the check says to a reader: how many nodes an accepted description has.
-#[derive(Clone, Copy)]
-pub enum Examined {
-    Nodes(usize),
-    Refused(Refusal),
+    // Its number in 01's table.
+    pub fn number(self) -> u8
+        ensures { result ≡ refusal_number self }
+    {
+        match self {
+            Refusal::EmptyOrTooLong => 1,
+            Refusal::UnknownKind(_) => 2,
+            Refusal::BodyCutShort(_) => 3,
+            Refusal::TooManyNodes => 4,
+            Refusal::NotListed(_) => 5,
+            Refusal::ChildNotSmaller(_) => 6,
+            Refusal::ChildNamedBefore(_) => 7,
+            Refusal::NumberNodeWanted(_) => 8,
+            Refusal::NeverNamed(_) => 9,
+            Refusal::NoEnclosingBind(_) => 10,
+        }
+    }
+
+    // The node that is given with it.
+    pub fn node(self) -> u8
+        ensures { result ≡ refusal_node self }
+    {
+        match self {
+            Refusal::EmptyOrTooLong => 0,
+            Refusal::TooManyNodes => 64,
+            Refusal::UnknownKind(node)
+            | Refusal::BodyCutShort(node)
+            | Refusal::NotListed(node)
+            | Refusal::ChildNotSmaller(node)
+            | Refusal::ChildNamedBefore(node)
+            | Refusal::NumberNodeWanted(node)
+            | Refusal::NeverNamed(node)
+            | Refusal::NoEnclosingBind(node) => node,
+        }
+    }
 }
 
 // "The check alone".
-pub fn check(desc: &[u8]) -> Verdict
+#[tactic(auto, unfolding(crate::specs::Check::checked, crate::specs::Check::verdict, crate::specs::Examine::examined))]
+pub fn check(desc: &[u8]) -> Result<(), Refusal>
     ensures { result ≡ checked desc.now }
 {
     let mut starts = [0usize; MOST_NODES];
-    match examine(desc, &mut starts) {
-        Examined::Nodes(_) => Verdict::Accepted,
-        Examined::Refused(r) => Verdict::Refused(r),
-    }
+    examine(desc, &mut starts)?;
+    Ok(())
 }
 
-// The check, which leaves where each node begins to the reader.
-pub fn examine(desc: &[u8], starts: &mut [usize; MOST_NODES]) -> Examined
+// The check as a reader asks for it: how many nodes an accepted description has; where each begins is left in `starts`, which is lent and no part of the
+// result, since what it holds after a refusal is promised too (`starts_after`).
+pub fn examine(desc: &[u8], starts: &mut [usize; MOST_NODES]) -> Result<usize, Refusal>
     ensures value { result ≡ examined desc.now }
     ensures starts_after { starts.new ≡ starts_after desc.now starts.old }
-    ensures by_index { (n : ℕ) → result ≡ Examined.Nodes n → Readable desc.now starts.new n }
+    ensures readable { IfOk result (Readable desc.now starts.new) }
 {
-    if desc.len() == 0 {
-        return Examined::Refused(Refusal::EmptyOrTooLong);
-    }
-    if MOST_BYTES < desc.len() {
-        return Examined::Refused(Refusal::EmptyOrTooLong);
+    if desc.is_empty() || MOST_BYTES < desc.len() {
+        return Err(Refusal::EmptyOrTooLong);
     }
     let mut named = [false; MOST_NODES];
-    match nodes::parse(desc, starts, &mut named) {
-        nodes::Parsed::Stopped(r) => Examined::Refused(r),
-        nodes::Parsed::Nodes(n) => whole(desc, starts, &named, n),
-    }
+    let n = nodes::parse(desc, starts, &mut named)?;
+    whole(desc, starts, &named, n)
 }
 
-// 9 and 10, for n nodes that were parsed.
-fn whole(desc: &[u8], starts: &[usize], named: &[bool; MOST_NODES], n: usize) -> Examined
+// 9 and 10, for n nodes that were parsed. They become a `Nodes` here, after 9, since the flags are asked first.
+fn whole(
+    desc: &[u8],
+    starts: &[usize],
+    named: &[bool; MOST_NODES],
+    n: usize,
+) -> Result<usize, Refusal>
     requires { (length desc.now ≤ most_bytes) × (0 < n) × Whole desc.now starts.now named.now n }
     ensures { result ≡ judged (nodes_to desc.now n) }
 {
     let root = n - 1;
-    if let names::Unnamed::Node(i) = names::lowest_unnamed(named, root) {
-        return Examined::Refused(Refusal::NeverNamed(i));
+    if let Some(i) = names::lowest_unnamed(named, root) {
+        return Err(Refusal::NeverNamed(i as u8));
     }
-    if 0 < binds::needs(desc, starts, root) {
-        return Examined::Refused(Refusal::NoEnclosingBind(root as u8));
+    let nodes = Nodes {
+        desc,
+        starts,
+        count: n,
+    };
+    if 0 < binds::needs(&nodes, root) {
+        return Err(Refusal::NoEnclosingBind(root as u8));
     }
-    Examined::Nodes(n)
+    Ok(n)
 }

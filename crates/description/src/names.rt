@@ -1,63 +1,42 @@
 // Which nodes are named as children.
-ghost use Rattle.std.specs.Prelude.{false, ◌≡◌, ◌+◌, ◌≤◌, length};
-ghost use Rattle.description.specs.Inner.Children.{children_at};
+ghost use Rattle.std.specs.Prelude.{false, ◌≡◌, ◌≤◌, not, position, take};
 ghost use Rattle.description.specs.Check.{some_not_smaller};
 ghost use Rattle.description.specs.Limits.{most_nodes};
-ghost use Rattle.description.specs.Inner.Names.{some_marked, marked, unmarked};
+ghost use Rattle.description.specs.Inner.Names.{some_marked, marked};
 
 use crate::MOST_NODES;
 
-// Whether one of the k children that stand from byte i on is not smaller than node n.
-pub fn some_not_smaller(desc: &[u8], i: usize, k: usize, n: usize) -> bool
-    requires { i + k ≤ length desc.now }
-    ensures { result ≡ some_not_smaller n (children_at desc.now i k) }
+// Whether one of the children is not smaller than node n.
+#[tactic(auto, unfolding(crate::specs::Check::some_not_smaller))]
+pub fn some_not_smaller(children: &[u8], n: usize) -> bool
+    ensures { result ≡ some_not_smaller n children.now }
 {
-    let mut j: usize = 0;
-    while j < k {
-        if n <= desc[i + j] as usize {
-            return true;
-        }
-        j += 1;
-    }
-    false
+    children.iter().any(|&child| n <= child as usize)
 }
 
-// Whether one of the k children that stand from byte i on is named before, or twice; if not, they are named.
-pub fn some_named_before(desc: &[u8], i: usize, k: usize, named: &mut [bool; MOST_NODES]) -> bool
-    requires k_in_bounds { i + k ≤ length desc.now }
-    requires k_value { some_not_smaller most_nodes (children_at desc.now i k) ≡ false }
-    ensures value { result ≡ some_marked named.old (children_at desc.now i k) }
-    ensures named_after { result ≡ false → named.new ≡ marked named.old (children_at desc.now i k) }
+// Whether one of the children is named before, or twice; if not, they are named. A bool and
+// no Result, which would be no plainer: nobody is given a value, and `named` goes on to the next node.
+#[tactic(auto, unfolding(crate::specs::Check::some_not_smaller, crate::specs::Inner::Names::some_marked, crate::specs::Inner::Names::marked, crate::specs::Limits::most_nodes))]
+pub fn some_named_before(children: &[u8], named: &mut [bool; MOST_NODES]) -> bool
+    requires { some_not_smaller most_nodes children.now ≡ false }
+    ensures value { result ≡ some_marked named.old children.now }
+    ensures named_after { result ≡ false → named.new ≡ marked named.old children.now }
 {
-    let mut j: usize = 0;
-    while j < k {
-        let c = desc[i + j] as usize;
-        if named[c] {
+    for &child in children {
+        let child = child as usize;
+        if named[child] {
             return true;
         }
-        named[c] = true;
-        j += 1;
+        named[child] = true;
     }
     false
 }
 
 // The lowest node below the root that is not named.
-#[derive(Clone, Copy)]
-pub enum Unnamed {
-    Node(u8),
-    Nothing,
-}
-
-pub fn lowest_unnamed(named: &[bool; MOST_NODES], root: usize) -> Unnamed
+#[tactic(auto, unfolding(crate::specs::Limits::most_nodes))]
+pub fn lowest_unnamed(named: &[bool; MOST_NODES], root: usize) -> Option<usize>
     requires { root ≤ most_nodes }
-    ensures { result ≡ unmarked named.now 0 root }
+    ensures { result ≡ position not (take root named.now) }
 {
-    let mut i: usize = 0;
-    while i < root {
-        if !named[i] {
-            return Unnamed::Node(i as u8);
-        }
-        i += 1;
-    }
-    Unnamed::Nothing
+    named[..root].iter().position(|&is_named| !is_named)
 }

@@ -3,33 +3,58 @@
 #![tactic(auto)]
 
 ghost use Rattle.std.specs.Prelude.{◌≡◌, length};
-ghost use Rattle.reader.specs.Answers.{stated_by};
 ghost use Rattle.rules.specs.Outcome.{outcome};
 ghost use Rattle.writing.specs.Outcome as writing;
-ghost use Rattle.host.specs.Answer.{answer, numbers_of, Got, bits_of, Wrote};
+ghost use Rattle.host.specs.Answer.{answer, Got, Wrote};
 
-use description::{Verdict, refusals};
-use reader::Answer;
+use reader::{Refused, Success};
 
 // The check of a description: the refusal plus 256 times the node, 0 where it accepts.
+#[tactic(auto, unfolding(crate::specs::Answer::answer))]
 #[unsafe(no_mangle)]
 pub extern "C" fn rippleshrug_check_slice(desc: &[u8]) -> u32
     ensures { result ≡ answer desc.now }
 {
     match description::check(desc) {
-        Verdict::Accepted => 0,
-        Verdict::Refused(r) => refusals::number(r) as u32 + 256 * refusals::node(r) as u32,
+        Ok(()) => 0,
+        Err(r) => u32::from(r.number()) + 256 * u32::from(r.node()),
     }
 }
 
 // "refusal 0, node 0, count and end", or a refusal's: the four numbers of a call, laid out as C lays out a struct.
 #[repr(C)]
-#[derive(Clone, Copy)]
+#[derive(Clone, Copy, PartialEq, Eq, Debug)]
 pub struct Numbers {
     pub refusal: u32,
     pub node: u32,
     pub count: u32,
     pub end: u32,
+}
+
+impl From<Result<Success, Refused>> for Numbers {
+    ghost use Rattle.std.specs.Prelude.{◌≡◌};
+    ghost use Rattle.reader.specs.Answers.{stated_by};
+    ghost use Rattle.host.specs.Answer.{numbers_of};
+
+    ghost from_gives = { λ answer numbers. numbers ≡ numbers_of (stated_by answer) };
+
+    #[tactic(auto, unfolding(crate::specs::Answer::numbers_of, reader::specs::Answers::stated_by, reader::specs::Answers::said, rules::specs::Outcome::stated))]
+    fn from(answer: Result<Success, Refused>) -> Numbers {
+        match answer {
+            Ok(success) => Numbers {
+                refusal: 0,
+                node: 0,
+                count: success.count,
+                end: success.end,
+            },
+            Err(refused) => Numbers {
+                refusal: refused.number().into(),
+                node: refused.node().into(),
+                count: 0,
+                end: 0,
+            },
+        }
+    }
 }
 
 // A call of the reader: its four numbers, and both tables, whatever stood in them.
@@ -43,47 +68,41 @@ pub extern "C" fn rippleshrug_read_slices(
     ensures { Got (outcome (length values.old) (length descriptors.old) desc.now input.now)
         result values.new descriptors.new }
 {
-    in_numbers(reader::read(desc, input, values, descriptors))
-}
-
-fn in_numbers(answer: Answer) -> Numbers
-    ensures { result ≡ numbers_of (stated_by answer) }
-{
-    match answer {
-        Answer::Success { count, end } => Numbers {
-            refusal: 0,
-            node: 0,
-            count: count,
-            end: end,
-        },
-        Answer::BadDescription(r) => Numbers {
-            refusal: refusals::number(r) as u32,
-            node: refusals::node(r) as u32,
-            count: 0,
-            end: 0,
-        },
-        Answer::InputTooLong => Numbers {
-            refusal: 12,
-            node: 0,
-            count: 0,
-            end: 0,
-        },
-        Answer::NoRoom => Numbers {
-            refusal: 13,
-            node: 0,
-            count: 0,
-            end: 0,
-        },
-    }
+    reader::read(desc, input, values, descriptors).into()
 }
 
 // "the number of bits without the padding", or a refusal: the three numbers of a call of the writer, laid out as C lays out a struct.
 #[repr(C)]
-#[derive(Clone, Copy)]
+#[derive(Clone, Copy, PartialEq, Eq, Debug)]
 pub struct Bits {
     pub refusal: u32,
     pub node: u32,
     pub bits: u32,
+}
+
+// Beside the conversion to `Numbers`: C has two structs.
+impl From<Result<u32, writing::Refused>> for Bits {
+    ghost use Rattle.std.specs.Prelude.{◌≡◌};
+    ghost use Rattle.writing.specs.Outcome.{stated};
+    ghost use Rattle.host.specs.Answer.{bits_of};
+
+    ghost from_gives = { λ answer bits. bits ≡ bits_of (stated answer) };
+
+    #[tactic(auto, unfolding(crate::specs::Answer::bits_of, writing::specs::Outcome::stated))]
+    fn from(answer: Result<u32, writing::Refused>) -> Bits {
+        match answer {
+            Ok(bits) => Bits {
+                refusal: 0,
+                node: 0,
+                bits,
+            },
+            Err(refused) => Bits {
+                refusal: refused.number().into(),
+                node: refused.node().into(),
+                bits: 0,
+            },
+        }
+    }
 }
 
 // A call of the writer: its three numbers, and every byte of the buffer, whatever stood in it.
@@ -96,37 +115,5 @@ pub extern "C" fn rippleshrug_write_slices(
 ) -> Bits
     ensures { Wrote (writing.outcome (length buffer.old) desc.now values.now count) result buffer.new }
 {
-    in_bits(writer::write(desc, values, count, buffer))
-}
-
-fn in_bits(answer: writing::Answer) -> Bits
-    ensures { result ≡ bits_of (writing.stated answer) }
-{
-    match answer {
-        writing::Answer::Bits(bits) => Bits {
-            refusal: 0,
-            node: 0,
-            bits: bits,
-        },
-        writing::Answer::BadDescription(r) => Bits {
-            refusal: refusals::number(r) as u32,
-            node: refusals::node(r) as u32,
-            bits: 0,
-        },
-        writing::Answer::NotWritable => Bits {
-            refusal: 14,
-            node: 0,
-            bits: 0,
-        },
-        writing::Answer::WrongTable => Bits {
-            refusal: 15,
-            node: 0,
-            bits: 0,
-        },
-        writing::Answer::NoSpace => Bits {
-            refusal: 16,
-            node: 0,
-            bits: 0,
-        },
-    }
+    writer::write(desc, values, count, buffer).into()
 }

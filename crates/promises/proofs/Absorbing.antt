@@ -4,7 +4,7 @@ use mathlib.Core.Bool.{false}
 use mathlib.Core.List.{List, [], ◌∷◌, ◌++◌}
 use mathlib.Core.Path.{◌≡◌, sym, ◌∙◌}
 use Rattle.description.specs.Check.{is_in}
-use Rattle.description.proofs.Choice.{or_left_false, or_right_false}
+use Rattle.std.proofs.lemmas.Bool.{or_parts}
 use Rattle.description.proofs.Marking.{in_append}
 use Rattle.rules.specs.Entries.{Entry}
 
@@ -17,10 +17,10 @@ abbrev pub Fewer : List ℕ → List ℕ → Type 0
 Fewer ns ms = (n : ℕ) → is_in n ns ≡ false → is_in n ms ≡ false
 
 pub fewer-first : (ms ks : List ℕ) → Fewer (ms ++ ks) ms
-fewer-first ms ks n e = or_left_false (is_in n ms) (is_in n ks) (sym (in_append n ms ks) ∙ e)
+fewer-first ms ks n e = (or_parts (is_in n ms) (is_in n ks) (sym (in_append n ms ks) ∙ e)).0
 
 pub fewer-second : (ms ks : List ℕ) → Fewer (ms ++ ks) ks
-fewer-second ms ks n e = or_right_false (is_in n ms) (is_in n ks) (sym (in_append n ms ks) ∙ e)
+fewer-second ms ks n e = (or_parts (is_in n ms) (is_in n ks) (sym (in_append n ms ks) ∙ e)).1
 
 pub off_fewer : (ns ms : List ℕ) → Fewer ns ms → (es : List Entry) → Off ns es → Off ms es
 off_fewer ns ms f [] off = tt

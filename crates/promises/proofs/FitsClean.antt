@@ -13,7 +13,8 @@ use Rattle.bits.specs.Whole.{word}
 use Rattle.description.specs.Check.{is_in}
 use Rattle.description.specs.Nodes.{Relation, Operand}
 use Rattle.description.specs.Trees.{Tree, unit, bottom, bits, signed, then, bind, either, both, where', sequence, compute, absorb, scan}
-use Rattle.description.proofs.Choice.{by_test, by_search, or_left}
+use Rattle.std.proofs.lemmas.Bool.{or_left}
+use Rattle.description.proofs.Choice.{by_test, by_search}
 use Rattle.rules.specs.Entries.{Entry, Reading, reading, any, fail}
 use Rattle.rules.specs.Fitting.{recorded, Run, Children, EndToEnd, SameBegin, Fits}
 use Rattle.rules.specs.Numbers.{value_of, holds}

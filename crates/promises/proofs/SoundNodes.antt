@@ -10,7 +10,7 @@ use Rattle.description.specs.Check.{some_no_number, node_at, node_refusal}
 use Rattle.description.specs.Kinds.{byte, unit_row, kinds, row_of}
 use Rattle.description.specs.Nodes.{Node, unit, bottom, bits, signed, then, bind, either, both, where', sequence, compute, absorb, scan, is_number, must_be_numbers}
 use Rattle.description.specs.Trees.{Tree, tree}
-use Rattle.description.proofs.Choice.{and_left, or_left_false}
+use Rattle.std.proofs.lemmas.Bool.{and_parts, or_parts}
 use Rattle.description.proofs.Ranges.{by_kind}
 use Rattle.description.proofs.Refusing.{passed}
 use Rattle.description.proofs.Visiting.{width_listed, signed-listed}
@@ -48,7 +48,7 @@ module _ (desc : List ℕ) (before : List Node) where
     unfolding some_no_number
     wanted-number c cs e =
         let is = is_number (get_or before c unit) in
-        (fair c).0 ∙ not-false is (or_left_false (not is) (some_no_number before cs) e)
+        (fair c).0 ∙ not-false is (or_parts (not is) (some_no_number before cs) e).0
 
     -- the tree of the node that a kind's row makes of the body at byte i, by what was tested of it
     abbrev RowSound : (i kind : ℕ) → Type 0
@@ -59,37 +59,10 @@ module _ (desc : List ℕ) (before : List Node) where
     row-sound : (i kind : ℕ) → RowSound i kind
     unfolding row_of kinds unit_row must_be_numbers tree
     row-sound i =
-        by_kind (RowSound i) (
-          (λ l m. tt),
-          (
-            (λ l m. tt),
-            (
-              (λ l m. width_listed _ l),
-              (
-                (λ l m. signed-listed _ l),
-                (
-                  (λ l m. (sound _, sound _)),
-                  (
-                    (λ l m. (wanted-number _ _ m, sound _, sound _)),
-                    (
-                      (λ l m. (sound _, sound _)),
-                      (
-                        (λ l m. (sound _, sound _)),
-                        (
-                          (λ l m. (wanted-number _ _ m, sound _)),
-                          (
-                            (λ l m. (sound _, sound _, sound _)),
-                            ((λ l m. (width_listed _ (and_left _ _ (and_left _ _ (and_left _ _ l)))).1), ((λ l m. sound _), ((λ l m. sound _), tt))),
-                          ),
-                        ),
-                      ),
-                    ),
-                  ),
-                ),
-              ),
-            ),
-          ),
-        )
+        by_kind (RowSound i) (λ l m. tt) (λ l m. tt) (λ l m. width_listed _ l) (λ l m. signed-listed _ l)
+        (λ l m. (sound _, sound _)) (λ l m. (wanted-number _ _ m, sound _, sound _)) (λ l m. (sound _, sound _)) (λ l m. (sound _, sound _))
+        (λ l m. (wanted-number _ _ m, sound _)) (λ l m. (sound _, sound _, sound _))
+        (λ l m. (width_listed _ (and_parts _ _ (and_parts _ _ (and_parts _ _ l).0).0).0).1) (λ l m. sound _) (λ l m. sound _)
         past
       where
         past : (k : ℕ) → 13 ≤ k → RowSound i k

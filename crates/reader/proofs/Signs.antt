@@ -1,7 +1,6 @@
 -- Whole numbers that 64 bits hold, as the machine compares them.
-use Rattle.std.proofs.Common.{◌≡◌, ℕ, suc, ◌-◌, ◌^◌, true, false, eqb, ℤ, pos, negsuc, ◌-ℤ◌, sym, refl, ap, ◌∙◌, true≢false, arith, w64, SFits, of_z, ltb-true, le-ltb, eq-eqb, ne_eqb}
+use Rattle.std.proofs.Common.{◌≡◌, suc, ◌-◌, ◌^◌, eqb, ℤ, pos, negsuc, sym, refl, ◌∙◌, arith, w64, SFits, of_z, eq-eqb, ne_eqb}
 use native.Mathlib.Decide.{ℕ_discrete}
-use lib.Signed.{lt_z}
 use Rattle.bits.specs.Whole.{same_z}
 
 -- two of them have the same bits where they are the same
@@ -15,16 +14,3 @@ same_bits (negsuc a) (negsuc b) f g = go (ℕ_discrete a b)
     go : Dec (a ≡ b) → eqb (2 ^ 64 - suc a) (2 ^ 64 - suc b) ≡ eqb a b
     go (yes e) = rw e (eq-eqb (2 ^ 64 - suc b) (2 ^ 64 - suc b) refl ∙ sym (eq-eqb b b refl))
     go (no n) = ne_eqb (2 ^ 64 - suc a) (2 ^ 64 - suc b) (λ e. n (omega (arith, f.sfits, g.sfits))) ∙ sym (ne_eqb a b n)
-
--- a number below 0, and one that is not
-pub below-zero : (z : ℤ) → lt_z z (pos 0) ≡ true → (n : ℕ) × (z ≡ negsuc n)
-below-zero (pos n) t = let h = ltb-true n 0 t in absurd (omega arith)
-below-zero (negsuc n) t = (n, refl)
-
-pub not_below_zero : (z : ℤ) → lt_z z (pos 0) ≡ false → (n : ℕ) × (z ≡ pos n)
-not_below_zero (pos n) t = (n, refl)
-not_below_zero (negsuc n) t = absurd (true≢false t)
-
--- -1 less -(n + 1) is n
-pub turned : (n : ℕ) → negsuc 0 -ℤ negsuc n ≡ pos n
-turned n = rw (le-ltb (suc n) 1 (omega arith)) (ap pos (omega arith))

@@ -1,7 +1,6 @@
 -- What is printed for case A, whole, and for standard inputs that state a wrong length or stop too soon: computed.
-use Prim.Native.Nat.{ℕ}
-use mathlib.Core.List.{List, [], ◌∷◌, ◌++◌}
-use mathlib.Core.Path.{◌≡◌, refl}
+use Rattle.std.proofs.Common.{◌≡◌, ℕ, List, [], ◌∷◌, ◌++◌, refl}
+use Rattle.std.specs.Prelude.{codes}
 use Rattle.rules.proofs.Evaluate.{evaluated}
 use Rattle.text.specs.Lines.{digits, decimal}
 use Rattle.text.specs.Listing.{entry_line, entry_lines, refusal_line, printed, table_words, printed_outcome, listed, listing}
@@ -14,26 +13,21 @@ case_a =
 -- Its six lines.
 lines_a : List ℕ
 lines_a =
-    (111 ∷ 107 ∷ 32 ∷ 53 ∷ 32 ∷ 51 ∷ 50 ∷ 10 ∷ [])  -- ok 5 32
-    ++ (52 ∷ 32 ∷ 48 ∷ 32 ∷ 51 ∷ 50 ∷ 32 ∷ 48 ∷ 32 ∷ 48 ∷ 32 ∷ 48 ∷ 32 ∷ 48 ∷ 32 ∷ 53 ∷ 10 ∷ [])  -- 4 0 32 0 0 0 0 5
-    ++ (48 ∷ 32 ∷ 48 ∷ 32 ∷ 49 ∷ 54 ∷ 32 ∷ 48 ∷ 32 ∷ 48 ∷ 32 ∷ 54 ∷ 53 ∷ 53 ∷ 51 ∷ 48 ∷ 32 ∷ 48 ∷ 32 ∷ 49 ∷ 10 ∷ [])  -- 0 0 16 0 0 65530 0 1
-    ++ (51 ∷ 32 ∷ 49 ∷ 54 ∷ 32 ∷ 51 ∷ 50 ∷ 32 ∷ 48 ∷ 32 ∷ 48 ∷ 32 ∷ 48 ∷ 32 ∷ 48 ∷ 32 ∷ 51 ∷ 10 ∷ [])  -- 3 16 32 0 0 0 0 3
-    ++ (49 ∷ 32 ∷ 49 ∷ 54 ∷ 32 ∷ 51 ∷ 50 ∷ 32 ∷ 48 ∷ 32 ∷ 48 ∷ 32 ∷ 52 ∷ 32 ∷ 48 ∷ 32 ∷ 49 ∷ 10 ∷ [])  -- 1 16 32 0 0 4 0 1
-    ++ (50 ∷ 32 ∷ 51 ∷ 50 ∷ 32 ∷ 51 ∷ 50 ∷ 32 ∷ 48 ∷ 32 ∷ 48 ∷ 32 ∷ 49 ∷ 48 ∷ 32 ∷ 48 ∷ 32 ∷ 49 ∷ 10 ∷ [])  -- 2 32 32 0 0 10 0 1
+    codes "ok 5 32\n"
+    ++ codes "4 0 32 0 0 0 0 5\n"
+    ++ codes "0 0 16 0 0 65530 0 1\n"
+    ++ codes "3 16 32 0 0 0 0 3\n"
+    ++ codes "1 16 32 0 0 4 0 1\n"
+    ++ codes "2 32 32 0 0 10 0 1\n"
 
 whole : listing case_a ≡ lines_a
 unfolding evaluated digits decimal entry_line entry_lines refusal_line printed table_words printed_outcome listed listing case_a lines_a
 whole = refl
 
--- "refused 1 0"
-refused : List ℕ
-refused = 114 ∷ 101 ∷ 102 ∷ 117 ∷ 115 ∷ 101 ∷ 100 ∷ 32 ∷ 49 ∷ 32 ∷ 48 ∷ 10 ∷ []
-
--- "short input"
-short : List ℕ
-short = 115 ∷ 104 ∷ 111 ∷ 114 ∷ 116 ∷ 32 ∷ 105 ∷ 110 ∷ 112 ∷ 117 ∷ 116 ∷ 10 ∷ []
-
 -- 1,025 and 0 bytes are stated; one byte in all; two bytes of a description of three
-lengths : (listing (4 ∷ 1 ∷ []) ≡ refused) × (listing (0 ∷ 0 ∷ []) ≡ refused) × (listing (4 ∷ []) ≡ short) × (listing (0 ∷ 3 ∷ 2 ∷ 8 ∷ []) ≡ short)
-unfolding evaluated digits decimal listed listing refused short
+lengths : (listing (4 ∷ 1 ∷ []) ≡ codes "refused 1 0\n")
+    × (listing (0 ∷ 0 ∷ []) ≡ codes "refused 1 0\n")
+    × (listing (4 ∷ []) ≡ codes "short input\n")
+    × (listing (0 ∷ 3 ∷ 2 ∷ 8 ∷ []) ≡ codes "short input\n")
+unfolding evaluated digits decimal listed listing
 lengths = (refl, refl, refl, refl)

@@ -1,5 +1,6 @@
 -- What a line of the listing is made of: "unsigned decimals with single spaces", as bytes.
-use Rattle.std.specs.Prelude.{ℕ, zero, suc, ◌+◌, ◌/◌, ◌%◌, true, false, List, [], ◌∷◌, ◌++◌, ltb}
+use Rattle.std.specs.Prelude.{ℕ, zero, suc, ◌+◌, ◌/◌, ◌%◌, true, false, List, [], ◌∷◌, ◌++◌, ltb, codes}
+use Rattle.std.specs.List.{flat_map}
 
 -- The digits of n, of which there are at most so many.
 unfoldable pub digits : ℕ → ℕ → List ℕ
@@ -12,5 +13,4 @@ decimal n = digits (suc n) n
 
 -- The numbers that follow on a line, each after a single space; then the line feed.
 abbrev pub following : List ℕ → List ℕ
-following [] = 10 ∷ []
-following (n ∷ ns) = (32 ∷ decimal n) ++ following ns
+following ns = flat_map (λ n. codes " " ++ decimal n) ns ++ codes "\n"

@@ -1,27 +1,27 @@
 -- "The listing program": what it prints for what standard input holds, as bytes.
-use Rattle.std.specs.Prelude.{ℕ, zero, suc, ◌+◌, ◌*◌, true, false, ◌||◌, List, [], ◌∷◌, ◌++◌, eqb, ltb, length, get_or, take, drop}
+use Rattle.std.specs.Prelude.{ℕ, zero, suc, ◌+◌, ◌*◌, ◌==◌, ◌||◌, if◌then◌else◌, nat_lt, List, [], ◌∷◌, ◌++◌, length, slice_index_or, take, drop, codes}
 use Rattle.description.specs.Limits.{most_bytes}
 use Rattle.rules.specs.Outcome.{Answer, success, bad_description, input_too_long, no_room, stated, Outcome, outcome}
 use Rattle.text.specs.Lines.{decimal, following}
 
 -- "ok", count and end
 abbrev pub ok_line : (count end : ℕ) → List ℕ
-ok_line count end = (111 ∷ 107 ∷ []) ++ following (count ∷ end ∷ [])
+ok_line count end = codes "ok" ++ following (count ∷ end ∷ [])
 
 -- "refused", number, node
 abbrev pub refused_line : (number node : ℕ) → List ℕ
-refused_line number node = (114 ∷ 101 ∷ 102 ∷ 117 ∷ 115 ∷ 101 ∷ 100 ∷ []) ++ following (number ∷ node ∷ [])
+refused_line number node = codes "refused" ++ following (number ∷ node ∷ [])
 
 unfoldable pub refusal_line : Answer → List ℕ
 refusal_line a = refused_line (stated a).refusal (stated a).node
 
 -- "short input"
 abbrev pub short_input : List ℕ
-short_input = (115 ∷ 104 ∷ 111 ∷ 114 ∷ 116 ∷ 32 ∷ 105 ∷ 110 ∷ 112 ∷ 117 ∷ 116 ∷ []) ++ following []
+short_input = codes "short input" ++ following []
 
--- Word k of the entry at index i, of either table.
+-- Word k of the entry at index i, of either table; past the table's end, 0.
 abbrev pub entry_word : List ℕ → (i k : ℕ) → ℕ
-entry_word table i k = get_or table (4 * i + k) 0
+entry_word table i k = slice_index_or table (4 * i + k) 0
 
 module _ (values descriptors : List ℕ) where
   -- "node, begin, end, code, errors, number word, detail, size"
@@ -61,10 +61,9 @@ printed_outcome o = printed o.values o.descriptors o.answer
 -- description's end ... print "short input"."
 unfoldable pub listed : ℕ → List ℕ → List ℕ
 listed n bytes =
-    elim (eqb n 0 || ltb most_bytes n) [
-      | true ↦ refused_line 1 0
-      | false ↦ elim (ltb (length bytes) n) [ true ↦ short_input | false ↦ printed_outcome (outcome table_words table_words (take n bytes) (drop n bytes)) ]
-    ]
+    if n == 0 || nat_lt most_bytes n then refused_line 1 0
+    else (if nat_lt (length bytes) n then short_input
+    else printed_outcome (outcome table_words table_words (take n bytes) (drop n bytes)))
 
 -- "It reads standard input: a 16-bit big-endian length, the description, then the input." "fewer than two bytes in all, print "short input""
 unfoldable pub listing : List ℕ → List ℕ

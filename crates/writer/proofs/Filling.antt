@@ -1,16 +1,15 @@
--- The fields of the first nodes of a description, and the tables that are filled from them.
-use Rattle.std.proofs.Common.{◌≡◌, ℕ, zero, suc, ◌+◌, ◌<◌, ◌≤◌, Bool, true, false, ◌||◌, List, [], ◌∷◌, ◌++◌, length, get_or, set, sym, refl, ap, ◌∙◌, subst, add-one, arith, get_or-set_other, get_or-set_same}
+-- The fields of the first nodes of a description.
+use Rattle.std.proofs.Common.{◌≡◌, ℕ, zero, suc, ◌+◌, ◌<◌, Bool, true, false, ◌||◌, List, [], ◌∷◌, ◌++◌, length, get_or, sym, refl, ap, ◌∙◌, add-one, arith}
 use mathlib.Core.List.{map-append}
 use native.Mathlib.Decide.{ℕ_discrete}
 use Rattle.description.specs.Check.{node_at}
 use Rattle.description.specs.Places.{start, nodes_to}
-use Rattle.description.proofs.Choice.{or_left, or_right}
+use Rattle.std.proofs.lemmas.Bool.{or_left, or_right}
 use Rattle.description.proofs.Numbered.{grown-length, grown-at}
 use Rattle.writing.specs.Fields.{field_of, is_unwritable, some_unwritable}
 use Rattle.writing.specs.declared.Field.{Field}
-use Rattle.writing.specs.declared.Field.TheVariants.{Nothing, Bits, Signed, Unwritable}
-use Rattle.writing.specs.Bits.{width_of}
-use Rattle.writer.specs.Inner.Tables.{node_field, fields_to, Listed, Looked, Tabled}
+use Rattle.writing.specs.declared.Field.TheVariants.{Nothing}
+use Rattle.writer.specs.Inner.Fields.{node_field, fields_to}
 
 or_false : (a : Bool) → a || false ≡ a
 or_false true = refl
@@ -26,11 +25,11 @@ some_snoc [] f = or_false (is_unwritable f)
 some_snoc (g ∷ fs) f = ap (λ (b : Bool). is_unwritable g || b) (some_snoc fs f) ∙ sym (or_assoc (is_unwritable g) (some_unwritable fs) (is_unwritable f))
 
 module _ (d : List ℕ) where
-  fields-none : fields_to d 0 ≡ []
+  pub fields-none : fields_to d 0 ≡ []
   unfolding fields_to nodes_to
   fields-none = refl
 
-  fields-more : (k : ℕ) → fields_to d (suc k) ≡ fields_to d k ++ (node_field d k ∷ [])
+  pub fields-more : (k : ℕ) → fields_to d (suc k) ≡ fields_to d k ++ (node_field d k ∷ [])
   unfolding fields_to nodes_to node_field
   fields-more k = map-append field_of (nodes_to d k) (node_at d (start d k) ∷ [])
 
@@ -56,27 +55,3 @@ module _ (d : List ℕ) where
       go : Dec (k ≡ n) → (k < n → some_unwritable (fields_to d n) ≡ true) → (some_unwritable (fields_to d n) || is_unwritable (node_field d n)) ≡ true
       go (yes same) before = or_right (some_unwritable (fields_to d n)) (is_unwritable (node_field d n)) (ap (λ (m : ℕ). is_unwritable (node_field d m)) (sym same) ∙ e)
       go (no f) before = or_left (some_unwritable (fields_to d n)) (is_unwritable (node_field d n)) (before (omega arith))
-
-  -- The tables have the first k fields.
-  abbrev pub Filled : (widths mosts halves : List ℕ) → ℕ → Type 0
-  Filled widths mosts halves k = (i : ℕ) → i < k → Looked (node_field d i) (get_or widths i 0) (get_or mosts i 0) (get_or halves i 0)
-
-  pub filled_more : (widths mosts halves : List ℕ) (k w m h : ℕ) → k < length widths → k < length mosts → k < length halves → Looked (node_field d k) w m h
-      → Filled widths mosts halves k → Filled (set widths k w) (set mosts k m) (set halves k h) (k + 1)
-  filled_more widths mosts halves k w m h inside between beside looked filled i below = go (ℕ_discrete i k)
-    where
-      go : Dec (i ≡ k) → Looked (node_field d i) (get_or (set widths k w) i 0) (get_or (set mosts k m) i 0) (get_or (set halves k h) i 0)
-      go (yes e) = rw (e, get_or-set_same widths k w 0 inside, get_or-set_same mosts k m 0 between, get_or-set_same halves k h 0 beside) looked
-      go (no f) = rw (get_or-set_other widths k i w 0 f, get_or-set_other mosts k i m 0 f, get_or-set_other halves k i h 0 f) (filled i (omega arith))
-
-  pub filled-all : (widths mosts halves : List ℕ) (n : ℕ) → Filled widths mosts halves n → Tabled (fields_to d n) widths mosts halves
-  filled-all widths mosts halves n filled k h =
-      let below : k < n = omega (arith, fields-length n) in
-      subst (λ (f : Field). Looked f (get_or widths k 0) (get_or mosts k 0) (get_or halves k 0)) (sym (fields_at n k below)) (filled k below)
-
--- A field that is listed has no more bits than a word.
-pub narrow-field : (f : Field) → Listed f → width_of f ≤ 32
-narrow-field Nothing l = omega arith
-narrow-field (Bits w) l = l.1
-narrow-field (Signed w) l = l.1
-narrow-field Unwritable l = omega arith

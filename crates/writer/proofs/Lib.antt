@@ -1,7 +1,7 @@
 -- What the proofs of several functions use.
-mod Shifts
+mod Looked
 mod Packing
-mod Tables
+mod ByKind
 mod Filling
 mod Signs
 mod Entering

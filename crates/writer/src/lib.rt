@@ -1,52 +1,48 @@
 // The writer: one call puts the numbers of a value table back into bits, in the layout that a description says.
 #![tactic(auto)]
 
-mod buffers;
 mod entries;
 mod fields;
+mod packer;
+mod stored;
 
-ghost use Rattle.std.specs.Prelude.{◌≡◌, length, replicate};
-ghost use Rattle.description.specs.Examine.{examined, Readable};
-ghost use Rattle.description.specs.declared.Examined.TheVariants.{Nodes};
+ghost use Rattle.std.specs.Prelude.{◌≡◌, OnOk, length};
 ghost use Rattle.writing.specs.Outcome.{given, outcome};
 
 use crate::entries::ENTRY_WORDS;
-use description::{Examined, MOST_NODES};
-use writing::Answer;
+use crate::stored::Stored;
+use description::MOST_NODES;
+use description::places::Nodes;
+use writing::Refused;
 
-// A call: the answer, and every byte of the buffer, whatever stood in it.
-pub fn write(desc: &[u8], values: &[u32], count: usize, buffer: &mut [u8]) -> Answer
+// A call: "the number of bits without the padding", and every byte of the buffer, whatever stood in it.
+pub fn write(desc: &[u8], values: &[u32], count: usize, buffer: &mut [u8]) -> Result<u32, Refused>
     ensures { given result buffer.new ≡ outcome (length buffer.old) desc.now values.now count }
 {
-    buffers::clear(buffer);
-    let mut starts = [0usize; MOST_NODES];
-    match description::examine(desc, &mut starts) {
-        Examined::Refused(r) => Answer::BadDescription(r),
-        Examined::Nodes(n) => write_nodes(desc, &starts, n, values, count, buffer),
+    let written = try_write(desc, values, count, buffer);
+    if written.is_err() {
+        buffer.fill(0);
     }
+    written
 }
 
-// The table by the n nodes of a description, into a buffer that is clear: 14, then 15, then 16.
-fn write_nodes(
-    desc: &[u8],
-    starts: &[usize],
-    n: usize,
-    values: &[u32],
-    count: usize,
-    buffer: &mut [u8],
-) -> Answer
-    requires desc_value { (examined desc.now ≡ Nodes n) × Readable desc.now starts.now n }
-    requires buffer_value { buffer.old ≡ replicate (length buffer.old) 0 }
-    ensures { given result buffer.new ≡ outcome (length buffer.old) desc.now values.now count }
+// The call, but that anything may stand in the buffer where it is refused: 1 to 10, then 14, then 15 for the count.
+fn try_write(desc: &[u8], values: &[u32], count: usize, buffer: &mut [u8]) -> Result<u32, Refused>
+    ensures answer { result ≡ (outcome (length buffer.old) desc.now values.now count).answer }
+    ensures bytes { OnOk result
+        (buffer.new ≡ (outcome (length buffer.old) desc.now values.now count).buffer) }
 {
-    let mut widths = [0usize; MOST_NODES];
-    let mut mosts = [0u32; MOST_NODES];
-    let mut halves = [0u32; MOST_NODES];
-    if fields::some_unwritable(desc, starts, n, &mut widths, &mut mosts, &mut halves) {
-        return Answer::NotWritable;
-    }
+    let mut starts = [0usize; MOST_NODES];
+    let n = description::examine(desc, &mut starts)?;
+    let nodes = Nodes {
+        desc,
+        starts: &starts,
+        count: n,
+    };
+    let mut fields = [Stored::default(); MOST_NODES];
+    fields::look_up(&nodes, &mut fields)?;
     if values.len() / ENTRY_WORDS < count {
-        return Answer::WrongTable;
+        return Err(Refused::WrongTable);
     }
-    entries::write_entries(&widths, &mosts, &halves, n, values, count, buffer)
+    entries::write_entries(&fields[..n], values, count, buffer)
 }

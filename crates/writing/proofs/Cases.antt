@@ -6,12 +6,12 @@ use mathlib.Core.Logic.{inl, inr}
 use mathlib.Core.Path.{◌≡◌, refl}
 use lib.Dec.{lit≤, lit<}
 use lib.ListN.{replicate}
+use Rattle.std.specs.Prelude.{Ok}
 use Rattle.rules.specs.Outcome as reader
 use Rattle.promises.specs.Table.{entry_at}
 use Rattle.promises.proofs.Cases.{counters, turned, turned-read, cut}
 use Rattle.writing.specs.Fields.{fields_of, some_unwritable}
 use Rattle.writing.specs.Outcome.{outcome}
-use Rattle.writing.specs.declared.Answer.TheVariants.{Bits}
 use Rattle.writing.proofs.Evaluate.{Evaluated, evaluated}
 use Rattle.writing.proofs.Replaced.{Changed, replaced-number}
 use Rattle.writing.proofs.Replacing.{replaced}
@@ -38,7 +38,7 @@ unfolding evaluated
 turned-back = round_trip 4 20 20 counters turned 5 32 turned-read clean writable (lit≤ tt)
 
 -- and computed
-turned-bytes : outcome 4 counters values 5 ≡ record { answer = Bits 32; buffer = turned }
+turned-bytes : outcome 4 counters values 5 ≡ record { answer = Ok 32; buffer = turned }
 unfolding evaluated
 turned-bytes = refl
 
@@ -48,7 +48,7 @@ unfolding evaluated
 second-changed = replaced-number 4 20 20 counters turned 5 32 turned-read clean writable (lit≤ tt) 3 16 0x1234 (lit< tt) (inl refl) refl
 
 -- and computed
-second-bytes : outcome 4 counters (replaced values 3 0x1234) 5 ≡ record { answer = Bits 32; buffer = 0xff ∷ 0xfa ∷ 0x12 ∷ 0x34 ∷ [] }
+second-bytes : outcome 4 counters (replaced values 3 0x1234) 5 ≡ record { answer = Ok 32; buffer = 0xff ∷ 0xfa ∷ 0x12 ∷ 0x34 ∷ [] }
 unfolding evaluated
 second-bytes = refl
 
@@ -70,7 +70,7 @@ middle_changed : Changed 4 numbers three three-values three-descriptors 6 32 3 8
 unfolding evaluated entry_at
 middle_changed = replaced-number 4 24 24 numbers three 6 32 refl refl refl (lit≤ tt) 3 8 0xfffffffe (lit< tt) (inr refl) refl
 
-middle_bytes : outcome 4 numbers (replaced three-values 3 0xfffffffe) 6 ≡ record { answer = Bits 32; buffer = 0xff ∷ 0x3f ∷ 0xec ∷ 0x00 ∷ [] }
+middle_bytes : outcome 4 numbers (replaced three-values 3 0xfffffffe) 6 ≡ record { answer = Ok 32; buffer = 0xff ∷ 0x3f ∷ 0xec ∷ 0x00 ∷ [] }
 unfolding evaluated
 middle_bytes = refl
 

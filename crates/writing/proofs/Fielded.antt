@@ -9,7 +9,7 @@ use borrow.Author.Tests.{leb-false}
 use Rattle.description.specs.Check.{some_not_smaller}
 use Rattle.description.specs.Nodes.{Node, children}
 use Rattle.description.specs.Trees.{Tree, unit, bottom, bits, signed, then, bind, either, both, where', sequence, compute, absorb, scan, tree}
-use Rattle.description.proofs.Choice.{or_left_false, or_right_false}
+use Rattle.std.proofs.lemmas.Bool.{or_parts}
 use Rattle.writing.specs.Fields.{field_of}
 use Rattle.writing.specs.declared.Field.{Field}
 use Rattle.writing.specs.declared.Field.TheVariants.{Nothing, Bits, Signed, Unwritable}
@@ -40,11 +40,11 @@ module _ (fields : List Field) where
   module _ (child : ℕ → Tree) (n : ℕ) (before : (c : ℕ) → c < n → Fielded (child c)) where
     first : (a : ℕ) (cs : List ℕ) → some_not_smaller n (a ∷ cs) ≡ false → Fielded (child a)
     unfolding some_not_smaller
-    first a cs e = before a (leb-false n a (or_left_false (leb n a) (some_not_smaller n cs) e))
+    first a cs e = before a (leb-false n a (or_parts (leb n a) (some_not_smaller n cs) e).0)
 
     rest : (a : ℕ) (cs : List ℕ) → some_not_smaller n (a ∷ cs) ≡ false → some_not_smaller n cs ≡ false
     unfolding some_not_smaller
-    rest a cs e = or_right_false (leb n a) (some_not_smaller n cs) e
+    rest a cs e = (or_parts (leb n a) (some_not_smaller n cs) e).1
 
     pub node_fielded : (node : Node) → Own n (field_of node) → some_not_smaller n (children node) ≡ false → Fielded (tree child n node)
     unfolding tree children field_of

@@ -7,6 +7,7 @@ use mathlib.Core.Path.{◌≡◌, sym, ap, subst, ◌∙◌}
 use native.Mathlib.Omega.{arith}
 use lib.ListN.{length, get_or, length-append, length-set}
 use lib.Seq.{ext_get_or}
+use Rattle.std.specs.Prelude.{Ok}
 use Rattle.bits.specs.Bits.{bit, number}
 use Rattle.rules.specs.Entries.{Entry}
 use Rattle.rules.specs.Outcome as reader
@@ -14,7 +15,6 @@ use Rattle.writing.specs.Bits.{width_of, bytes_for, in_width, field_bits, of_wid
 use Rattle.writing.specs.Entries.{entry_words, holds, node_at, field_at}
 use Rattle.writing.specs.Fields.{fields_of, some_unwritable}
 use Rattle.writing.specs.Outcome.{outcome}
-use Rattle.writing.specs.declared.Answer.TheVariants as answers
 use Rattle.writing.specs.declared.Field.{Field}
 use Rattle.writing.specs.declared.Field.TheVariants.{Nothing, Bits, Signed}
 use Rattle.writing.proofs.Listed.{field_for, entry_bits, Right, AllRight, entry_bits_append, right_append}
@@ -36,7 +36,7 @@ IsNumber f w = (f ≡ Bits w) ⊎ (f ≡ Signed w)
 
 -- What is written where entry i, whose number has w bits, has the number m instead.
 pub record Changed (n : ℕ) (desc input values descriptors : List ℕ) (count end i w m : ℕ) : Type 0 where
-  pub answer : (outcome n desc (replaced values i m) count).answer ≡ answers.Bits end
+  pub answer : (outcome n desc (replaced values i m) count).answer ≡ Ok end
   -- the field's span
   pub span : (entry_at values descriptors i).end ≡ (entry_at values descriptors i).begin + w
   pub inside : (entry_at values descriptors i).end ≤ end
@@ -192,7 +192,7 @@ module _ (n : ℕ) (desc input values descriptors : List ℕ) (count end : ℕ) 
       let begin : (entry_at values descriptors i).begin ≡ p.begin = ap (λ (e : Entry). e.begin) here ∙ span.0 in
       let ends : (entry_at values descriptors i).end ≡ p.begin + w = ap (λ (e : Entry). e.end) here ∙ span.1 in
       record {
-        answer = ap (λ o. o.answer) is-written ∙ ap answers.Bits line-length;
+        answer = ap (λ o. o.answer) is-written ∙ ap Ok line-length;
         span = omega arith;
         inside = omega (arith, whole);
         elsewhere = rw begin outside;

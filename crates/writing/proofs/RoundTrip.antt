@@ -5,12 +5,12 @@ use mathlib.Core.List.{List}
 use mathlib.Core.Path.{◌≡◌, sym, ap, ◌∙◌}
 use native.Mathlib.Omega.{arith}
 use lib.ListN.{length}
+use Rattle.std.specs.Prelude.{Ok}
 use Rattle.bits.specs.Bits.{bit}
 use Rattle.rules.specs.Outcome as reader
 use Rattle.writing.specs.Bits.{bytes_for}
 use Rattle.writing.specs.Fields.{fields_of, some_unwritable}
 use Rattle.writing.specs.Outcome.{outcome}
-use Rattle.writing.specs.declared.Answer.TheVariants.{Bits}
 use Rattle.writing.proofs.Listed.{entry_bits}
 use Rattle.writing.proofs.PackedBits.{packed-bit}
 use Rattle.writing.proofs.Rows.{row, row-length, row_at, row-bits}
@@ -22,7 +22,7 @@ use Rattle.promises.specs.Table.{entry_at}
 
 -- The writer answers `end` bits, and they are the input's.
 pub record Returned (n : ℕ) (desc input values : List ℕ) (count end : ℕ) : Type 0 where
-  pub answer : (outcome n desc values count).answer ≡ Bits end
+  pub answer : (outcome n desc values count).answer ≡ Ok end
   pub bits : (k : ℕ) → k < end → bit (outcome n desc values count).buffer k ≡ bit input k
 
 module _ (n : ℕ) (desc input values descriptors : List ℕ) (count end : ℕ) (writable : some_unwritable (fields_of desc) ≡ false) (room : bytes_for end ≤ n) where
@@ -39,7 +39,7 @@ module _ (n : ℕ) (desc input values descriptors : List ℕ) (count end : ℕ) 
       (tiled-right input (fields_of desc) 0 end s.entries s.tiled) (omega (arith, s.many, s.held)) (omega (arith, s.few))
       ∙ ap (written n) bits in
       record {
-        answer = ap (λ o. o.answer) is ∙ ap Bits (row-length input 0 end);
+        answer = ap (λ o. o.answer) is ∙ ap Ok (row-length input 0 end);
         bits = λ k h.
             ap (λ o. bit o.buffer k) is
             ∙ packed-bit n k (row input 0 end) (row-bits input 0 end) (omega arith)

@@ -14,7 +14,8 @@ use Rattle.bits.specs.Whole.{twos_complement, modulo, word}
 use Rattle.bits.proofs.Numbers.{number-below, number_small}
 use Rattle.bits.proofs.Words.{modulo_twos, word-modulo}
 use Rattle.description.specs.Trees.{Tree, unit, bottom, bits, signed, then, bind, either, both, where', sequence, compute, absorb, scan}
-use Rattle.description.proofs.Choice.{by_test, or_left_false, or_right_false}
+use Rattle.std.proofs.lemmas.Bool.{or_parts}
+use Rattle.description.proofs.Choice.{by_test}
 use Rattle.rules.specs.Entries.{Entry, Reading, reading, fail}
 use Rattle.rules.specs.Numbers.{value_of}
 use Rattle.rules.specs.Rounds.{rounds}
@@ -35,8 +36,8 @@ use Rattle.writing.proofs.Tiling.{Spanned, tiled_append, one-tile, no_tile}
 none_unwritable : (fields : List Field) (n : ℕ) → some_unwritable fields ≡ false → is_unwritable (get_or fields n Nothing) ≡ false
 unfolding some_unwritable is_unwritable
 none_unwritable [] n e = refl
-none_unwritable (f ∷ fields) zero e = or_left_false (is_unwritable f) (some_unwritable fields) e
-none_unwritable (f ∷ fields) (suc n) e = none_unwritable fields n (or_right_false (is_unwritable f) (some_unwritable fields) e)
+none_unwritable (f ∷ fields) zero e = (or_parts (is_unwritable f) (some_unwritable fields) e).0
+none_unwritable (f ∷ fields) (suc n) e = none_unwritable fields n (or_parts (is_unwritable f) (some_unwritable fields) e).1
 
 module _ (input : List ℕ) (fields : List Field) (writable : some_unwritable fields ≡ false) where
   refused : {A : Type 0} (n : ℕ) → Own fields n Unwritable → A

@@ -1,68 +1,54 @@
 -- The tests of the length, the parse, and the tests of all nodes together.
-use borrow.Author.Rules.{rules}
-use mathlib.Core.Path.{◌≡◌, sym, ◌∙◌}
-use Prim.Native.Nat.{◌≤◌}
-use lib.ListN.{length}
+use Rattle.std.proofs.Common.{◌≡◌, ℕ, sym, ◌∙◌, ap, Err, arith, false, ◌==◌}
+use Rattle.std.proofs.lemmas.Result.{err_from_is_err_and}
+use Rattle.std.proofs.lemmas.Bool.{eqb-false}
 use Rattle.description.specs.Limits.{most_bytes, most_nodes}
-use Rattle.description.proofs.Examining.{counted-stopped, answer_empty, answer-long, answer-stopped, some-node, answer-whole}
+use Rattle.description.proofs.Examining.{counted-stopped, examined_empty, examined_long, examined-stopped, examined-judged, starts_empty, starts_long, starts_short, some-node, readable}
 use Rattle.description.proofs.Marking.{mark_none}
 use Rattle.description.proofs.examine.Goals as goal
-use Rattle.description.proofs.examine.Goals.{Else-desc-gt-MOST_BYTES}
 
-pub returns-then-desc-eq0 : goal.returns-then-desc-eq0
-returns-then-desc-eq0 c =
-    let all = answer_empty _ _ c.if-desc-eq0.true in
-    record {
-      value = all.0;
-      starts_after = all.1.0;
-      by_index = all.1.1;
-    }
-
-pub returns-then-desc-gt-MOST_BYTES : goal.returns-then-desc-gt-MOST_BYTES
+pub returns-then-is_empty : goal.returns-then-is_empty
 unfolding most_bytes
-returns-then-desc-gt-MOST_BYTES c =
-    let all = answer-long _ _ c.if-desc-gt-MOST_BYTES.true in
-    record {
-      value = all.0;
-      starts_after = all.1.0;
-      by_index = all.1.1;
-    }
-
--- where the description is neither empty nor too long
-module _ (c : Else-desc-gt-MOST_BYTES) where
-  some_byte : length c.args.desc.now ≡ 0 → ⊥
-  some_byte = c.if-desc-eq0.false
-
-  short : length c.args.desc.now ≤ most_bytes
-  unfolding most_bytes
-  short = c.if-desc-gt-MOST_BYTES.false
+returns-then-is_empty c = record {
+  value = grind (arith, examined_empty, examined_long);
+  starts_after = grind (arith, starts_empty, starts_long);
+  readable = tt;
+}
 
 pub parse-requires : goal.parse-requires
-unfolding most_nodes
-parse-requires c = (short (goal.at.parse-requires c).Else-desc-gt-MOST_BYTES, search rules, mark_none)
+unfolding most_bytes most_nodes
+parse-requires c = (omega arith, mark_none)
+
+some_byte : (n : ℕ) → false ≡ (n == 0) → n ≡ 0 → ⊥
+some_byte n e = eqb-false n 0 (sym e)
 
 pub whole-requires : goal.whole-requires
+unfolding most_bytes
 whole-requires c =
-    let w = c.parse.ensures.by_index _ c.in-Nodes.is in
-    (short (goal.at.whole-requires c).Else-desc-gt-MOST_BYTES, some-node _ (some_byte (goal.at.whole-requires c).Else-desc-gt-MOST_BYTES) (short (goal.at.whole-requires c).Else-desc-gt-MOST_BYTES) _ _ _ w, w)
+    let short = c.if-desc-gt-MOST_BYTES.false in
+    let w = c.in_ok-n.ensures.whole in
+    (short, some-node _ (some_byte _ c.if-is_empty.ensures) short _ _ _ w, w)
 
-pub returns-in-Stopped : goal.returns-in-Stopped
-returns-in-Stopped c =
-    let r = c.in-Stopped.r in
-    let all = answer-stopped _ (some_byte (goal.at.returns-in-Stopped c).Else-desc-gt-MOST_BYTES) (short (goal.at.returns-in-Stopped c).Else-desc-gt-MOST_BYTES) _ _ r
-    (counted-stopped _ r (sym c.parse.ensures.value ∙ c.in-Stopped.is)) c.parse.ensures.starts_after in
+pub returns-in_err-n : goal.returns-in_err-n
+unfolding most_bytes
+returns-in_err-n c =
+    let short = c.if-desc-gt-MOST_BYTES.false in
+    let p = err_from_is_err_and c.from_residual.result c.from_residual.ensures.1 in
+    let said = examined-stopped _ (some_byte _ c.if-is_empty.ensures) short _ (counted-stopped _ _ (sym c.in_err-n.ensures.value)) in
     record {
-      value = all.0;
-      starts_after = all.1.0;
-      by_index = all.1.1;
+      value = p.1 ∙ ap Err p.2 ∙ sym said;
+      starts_after = c.in_err-n.ensures.starts_after ∙ sym (starts_short _ _ short);
+      readable = rw (p.1) tt;
     }
 
-pub returns-in-Nodes : goal.returns-in-Nodes
-returns-in-Nodes c =
-    let w = c.parse.ensures.by_index _ c.in-Nodes.is in
-    let all = answer-whole _ (some_byte (goal.at.returns-in-Nodes c).Else-desc-gt-MOST_BYTES) (short (goal.at.returns-in-Nodes c).Else-desc-gt-MOST_BYTES) _ _ _ w _ _ c.whole.ensures c.parse.ensures.starts_after in
+pub returns : goal.returns
+unfolding most_bytes
+returns c =
+    let some = some_byte _ c.if-is_empty.ensures in
+    let short = c.if-desc-gt-MOST_BYTES.false in
+    let w = c.in_ok-n.ensures.whole in
     record {
-      value = all.0;
-      starts_after = all.1.0;
-      by_index = all.1.1;
+      value = c.whole.ensures ∙ examined-judged _ some short _ w.nodes-are;
+      starts_after = c.in_ok-n.ensures.starts_after ∙ sym (starts_short _ _ short);
+      readable = readable _ some short _ _ _ w _ c.whole.ensures;
     }

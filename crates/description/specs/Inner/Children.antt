@@ -1,5 +1,5 @@
 -- A node's children as bytes of its body, and what the node puts around them and needs itself.
-use Rattle.std.specs.Prelude.{ℕ, zero, suc, ◌+◌, max, cond, ◌&&◌, List, [], ◌∷◌, eqb}
+use Rattle.std.specs.Prelude.{ℕ, zero, suc, ◌+◌, max, cond, ◌&&◌, ◌||◌, List, [], ◌∷◌, eqb, take}
 use Rattle.description.specs.Binds.{needs_of}
 use Rattle.description.specs.Kinds.{byte, operand}
 
@@ -18,3 +18,7 @@ own_needs desc kind i =
     cond (eqb kind 8) (needs_of (operand desc (i + 2)))
     (cond (eqb kind 9) (needs_of (operand desc (i + 3)))
     (cond (eqb kind 10) (max (needs_of (operand desc (i + 2))) (needs_of (operand desc (i + 7)))) 0))
+
+-- "the first child of bind and the child of where must be number nodes": of a node's children those of which that is asked, by its kind byte.
+unfoldable pub number_children : ℕ → List ℕ → List ℕ
+number_children kind children = take (cond (eqb kind 5 || eqb kind 8) 1 0) children

@@ -1,9 +1,7 @@
 -- The flags by which the check knows which nodes are named: what its functions promise each other of them.
-use Rattle.std.specs.Prelude.{ℕ, zero, suc, ◌<◌, Bool, true, false, ◌||◌, List, [], ◌∷◌, ◌≡◌, length, get_or, set}
+use Rattle.std.specs.Prelude.{ℕ, ◌<◌, Bool, true, false, ◌||◌, List, [], ◌∷◌, ◌≡◌, length, get_or, set}
 use Rattle.description.specs.Check.{is_in}
 use Rattle.description.specs.Limits.{most_nodes}
-use Rattle.description.specs.declared.names.Unnamed.{Unnamed}
-use Rattle.description.specs.declared.names.Unnamed.TheVariants.{Node, Nothing}
 
 -- There is a flag for each node that a description may have, and it says whether the node is among the names.
 pub record Marks (flags : List Bool) (names : List ℕ) : Type 0 where
@@ -19,8 +17,3 @@ some_marked flags (c ∷ cs) = get_or flags c false || some_marked (set flags c 
 unfoldable pub marked : List Bool → List ℕ → List Bool
 marked flags [] = flags
 marked flags (c ∷ cs) = marked (set flags c true) cs
-
--- The lowest unmarked node from i on, among `left`.
-unfoldable pub unmarked : List Bool → ℕ → ℕ → Unnamed
-unmarked flags i zero = Nothing
-unmarked flags i (suc left) = elim (get_or flags i false) [ true ↦ unmarked flags (suc i) left | false ↦ Node i ]

@@ -1,27 +1,22 @@
 -- The steps of the check: what its functions promise each other of their answers.
-use Rattle.std.specs.Prelude.{ℕ, ◌≤◌, Bool, List, [], ◌≡◌, length}
+use Rattle.std.specs.Prelude.{ℕ, ◌≤◌, Bool, List, [], ◌≡◌, length, Result, Ok, Err}
 use Rattle.std.proofs.Math.Option.{Option, none, some}
 use Rattle.description.specs.Check.{named_by, Parsed, parsed, stopped, nodes_from, tree_refusal}
 use Rattle.description.specs.Limits.{most_nodes}
 use Rattle.description.specs.Inner.Names.{Marks}
 use Rattle.description.specs.Nodes.{Node}
 use Rattle.description.specs.Places.{start, nodes_to, Found}
-use Rattle.description.specs.declared.Examined as examined
 use Rattle.description.specs.declared.Refusal.{Refusal}
-use Rattle.description.specs.declared.nodes.Parsed as nodes
-use Rattle.description.specs.declared.nodes.Parsed.TheVariants.{Nodes, Stopped}
-use Rattle.description.specs.declared.nodes.Step.{Step}
-use Rattle.description.specs.declared.nodes.Step.TheVariants.{Next, Stop}
 
 -- What the step over one node answers: its refusal, or where the next begins.
-unfoldable pub step_of : Option Refusal → ℕ → Step
-step_of none end = Next end
-step_of (some r) end = Stop r
+unfoldable pub step_of : Option Refusal → ℕ → Result ℕ Refusal
+step_of none end = Ok end
+step_of (some r) end = Err r
 
 -- What the parse answers.
-unfoldable pub counted : Parsed → nodes.Parsed
-counted (parsed nodes) = Nodes (length nodes)
-counted (stopped r) = Stopped r
+unfoldable pub counted : Parsed → Result ℕ Refusal
+counted (parsed nodes) = Ok (length nodes)
+counted (stopped r) = Err r
 
 -- What a parse that ends with n nodes leaves: they all stand, their starts are placed, and the flags mark the children that they name.
 pub record Whole (desc starts : List ℕ) (flags : List Bool) (n : ℕ) : Type 0 where
@@ -32,5 +27,5 @@ pub record Whole (desc starts : List ℕ) (flags : List Bool) (n : ℕ) : Type 0
   pub ends : length desc ≤ start desc n
 
 -- What 9 and 10 leave of nodes that were parsed.
-unfoldable pub judged : List Node → examined.Examined
-judged nodes = elim (tree_refusal nodes) [ some r ↦ examined.TheVariants.Refused r | none ↦ examined.TheVariants.Nodes (length nodes) ]
+unfoldable pub judged : List Node → Result ℕ Refusal
+judged nodes = elim (tree_refusal nodes) [ some r ↦ Err r | none ↦ Ok (length nodes) ]

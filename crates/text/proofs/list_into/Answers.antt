@@ -1,22 +1,13 @@
 -- Fewer than two bytes, or a stated length and what follows it.
-use native.Mathlib.Omega.{arith}
+use Rattle.std.proofs.Common.{arith}
 use Rattle.text.specs.Inner.Lengths.{most_text}
-use Rattle.text.proofs.Printed.{fits_as, short-fits, listing-short, listing-stated}
+use Rattle.text.proofs.Printed.{listing-short, listing-stated}
+use Rattle.text.proofs.Putting.{puts_as}
 use Rattle.text.proofs.list_into.Goals as goal
 
-pub returns-then-given-lt2 : goal.returns-then-given-lt2
+pub returns-in_default : goal.returns-in_default
 unfolding most_text
-returns-then-given-lt2 c =
-    let all = fits_as _ _ _ _ _ _ _ (listing-short c.args.given.now c.if-given-lt2.true) (omega arith) (short-fits _ _ _ c.short_input.ensures) in
-    record {
-      put = all.0;
-      given_len_bound = all.1;
-    }
+returns-in_default c = puts_as c.short_input.ensures (listing-short _ c.in_default.len_below) (omega arith)
 
 pub returns : goal.returns
-returns c =
-    let all = fits_as _ _ _ _ _ _ _ (listing-stated c.args.given.now c.if-given-lt2.false) (omega arith) (c.listed.ensures.put, c.listed.ensures.bytes_len_bound) in
-    record {
-      put = all.0;
-      given_len_bound = all.1;
-    }
+returns c = rw (listing-stated c.args.given.now c.in-len2-up.len_at_least, ← c.from_be_bytes.ensures) c.listed.ensures

@@ -1,34 +1,31 @@
--- The whole call: the buffer is cleared, the description is examined, and then the table is written by its nodes.
-use Rattle.std.proofs.Common.{ℕ, refl, replicate, sym, ap, ◌∙◌}
-use Rattle.description.specs.Examine.{Readable}
-use Rattle.description.specs.Limits.{most_nodes}
-use Rattle.description.proofs.Examining.{means-refused}
-use Rattle.writing.specs.Outcome.{outcome}
-use Rattle.writer.proofs.Calls.{refused_call}
+-- The table is written, or the buffer is cleared.
+use Rattle.std.proofs.Common.{◌≡◌, ℕ, true, false, List, replicate, sym, ◌∙◌, rules}
+use Rattle.std.specs.Prelude.{Result, Ok, Err, OnOk, is_err}
+use Rattle.writing.specs.Outcome.{Outcome, given, outcome}
+use Rattle.writing.specs.declared.Refused.{Refused}
+use Rattle.writing.proofs.Outcomes.{outcome-zeroes}
 use Rattle.writer.proofs.write.Goals as goal
-use Rattle.writer.proofs.write.Goals.{In-Nodes}
 
--- what the examination promises where it finds n nodes
-readable : (c : In-Nodes) → Readable c.args.desc.now c.examine.new.starts c.in-Nodes.n
-readable c = c.in-Nodes.ensures.by_index _ refl
+of-parts : (o : Outcome) (a : Result ℕ Refused) (b : List ℕ) → a ≡ o.answer → b ≡ o.buffer → given a b ≡ o
+unfolding given
+of-parts o a b e f = λ i. record { answer = e i; buffer = f i }
 
-pub slice_bounds-write_nodes-end : goal.slice_bounds-write_nodes-end
-unfolding most_nodes
-slice_bounds-write_nodes-end c =
-    let r = readable (goal.at.slice_bounds-write_nodes-end c).In-Nodes in
-    sym (r.placed 0 r.some-node).found.room
+-- a refusal, into a buffer that is cleared
+cleared : (n : ℕ) (desc values : List ℕ) (count : ℕ) (a : Result ℕ Refused) (b : List ℕ) → is_err a ≡ true → a ≡ (outcome n desc values count).answer → b ≡ replicate n 0
+    → given a b ≡ outcome n desc values count
+cleared n desc values count (Ok bits) b e is zero = absurd (cc)
+cleared n desc values count (Err r) b e is zero = of-parts (outcome n desc values count) (Err r) b is (zero ∙ sym (outcome-zeroes n desc values count r (sym is)))
 
-pub write_nodes-requires : goal.write_nodes-requires
-write_nodes-requires c = record {
-  desc_value = (sym c.in-Nodes.ensures.value, readable (goal.at.write_nodes-requires c).In-Nodes);
-  buffer_value = c.clear.ensures ∙ ap (λ (n : ℕ). replicate n 0) (sym c.clear.auto.buffer);
-}
+-- or the bytes as they were put
+written : (a : Result ℕ Refused) (b : List ℕ) (o : Outcome) → is_err a ≡ false → a ≡ o.answer → OnOk a (b ≡ o.buffer) → given a b ≡ o
+written (Ok bits) b o e is same = of-parts o (Ok bits) b is same
+written (Err r) b o e is same = absurd (cc)
 
-pub returns-in-Refused : goal.returns-in-Refused
-returns-in-Refused c =
-    refused_call _ _ c.args.values.now c.args.count _ c.clear.ensures _
-    (means-refused _ _ (sym c.in-Refused.ensures.value))
+pub returns-then-is_err : goal.returns-then-is_err
+returns-then-is_err c =
+    cleared _ _ _ c.args.count _ _ (sym c.is_err.ensures.value ∙ c.if-is_err.true) c.try_write-written.ensures.answer (search rules)
 
-pub returns-in-Nodes : goal.returns-in-Nodes
-returns-in-Nodes c =
-    c.write_nodes.ensures ∙ ap (λ (n : ℕ). outcome n c.args.desc.now c.args.values.now c.args.count) c.clear.auto.buffer
+pub returns-else-is_err : goal.returns-else-is_err
+returns-else-is_err c =
+    let w = c.try_write-written.ensures in
+    written _ _ _ (sym c.is_err.ensures.value ∙ c.if-is_err.false) w.answer w.bytes

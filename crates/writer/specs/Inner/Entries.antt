@@ -2,7 +2,7 @@
 use Rattle.std.specs.Prelude.{ℕ, true, false, List}
 use Rattle.writing.specs.Entries.{some_wrong, bits_from}
 use Rattle.writing.specs.Outcome.{Outcome, refusing, writing}
-use Rattle.writing.specs.declared.Answer.TheVariants.{WrongTable}
+use Rattle.writing.specs.declared.Refused.TheVariants.{WrongTable}
 use Rattle.writing.specs.declared.Field.{Field}
 
 unfoldable pub entered : (n : ℕ) → List ℕ → List Field → (count : ℕ) → Outcome

@@ -1,32 +1,26 @@
 -- Each turn is a step of `nodes_from`: what is left of it, done from here, gives the whole.
-use mathlib.Core.Path.{sym, ◌∙◌}
-use Prim.Native.Nat.{◌<◌}
-use native.Mathlib.Omega.{arith}
+use Rattle.std.proofs.Common.{ap, sym, ◌∙◌, ◌<◌, Err, arith, rules}
+use Rattle.std.proofs.lemmas.Result.{err_from_is_err_and}
 use Rattle.description.specs.Limits.{most_nodes}
 use Rattle.description.specs.Places.{nodes_to}
-use Rattle.description.proofs.Parsing.{answer-stopped, answer-parsed, going_start, going_found, going_length, going_full, going_stop, going_next, step_stop, step_next}
+use Rattle.description.proofs.Parsing.{answer-stopped, answer-parsed, going_start, going_found, going_full, going_stop, going_next, step_stop, step_next}
 use Rattle.description.proofs.Numbered.{nodes-length}
 use Rattle.description.proofs.Refusing.{gives-node}
+use Rattle.description.proofs.Standing.{found-placed}
 use Rattle.description.specs.declared.Refusal.TheVariants.{TooManyNodes}
 use Rattle.description.proofs.nodes.parse.Goals as goal
 use Rattle.description.proofs.nodes.parse.Goals.{Else-n-eq-MOST_NODES}
 
 pub loop-at-init : goal.loop-at-init
-loop-at-init c = let p = c.requires in going_start _ _ _ p.1 p.2
-
-pub shape_of-starts-then-n-eq-MOST_NODES : goal.shape_of-starts-then-n-eq-MOST_NODES
-shape_of-starts-then-n-eq-MOST_NODES c = going_length _ _ _ _ _ _ c.loop-at.invariant
+unfolding most_nodes
+loop-at-init c = going_start _ _ _ (search rules) c.requires.1
 
 pub returns-then-n-eq-MOST_NODES : goal.returns-then-n-eq-MOST_NODES
 unfolding most_nodes
 returns-then-n-eq-MOST_NODES c =
     let g = c.loop-at.invariant in
-    let all = answer-stopped _ _ _ _ _ _ g _ TooManyNodes (going_full _ _ _ _ _ _ g c.loop-at-test.true c.if-n-eq-MOST_NODES.true) (sym c.if-n-eq-MOST_NODES.true) in
-    record {
-      value = all.0;
-      starts_after = all.1.0;
-      by_index = all.1.1;
-    }
+    let all = answer-stopped _ _ _ _ _ _ g TooManyNodes (going_full _ _ _ _ _ _ g c.loop-at-test.true c.if-n-eq-MOST_NODES.true) (sym c.if-n-eq-MOST_NODES.true) in
+    record { value = all.0; starts_after = all.1; whole = search rules }
 
 -- the loop's head, and a node less than the most
 module _ (c : Else-n-eq-MOST_NODES) where
@@ -38,31 +32,27 @@ module _ (c : Else-n-eq-MOST_NODES) where
   unfolding most_nodes
   fewer-64 = fewer
 
+pub invariant_of-before : goal.invariant_of-before
+invariant_of-before c =
+    let f = fewer (goal.at.invariant_of-before c).Else-n-eq-MOST_NODES in
+    record { placed = λ k. found-placed _ _ _ k c.requires.0 (omega arith) (going_found _ _ _ _ _ _ c.loop-at.invariant) }
+
 pub node-requires : goal.node-requires
-node-requires c =
+node-requires c = record {
+  within = (c.loop-at-test.true, c.requires.0, fewer (goal.at.node-requires c).Else-n-eq-MOST_NODES);
+  marks = c.loop-at.invariant.marks;
+}
+
+pub returns-in_err-end : goal.returns-in_err-end
+returns-in_err-end c =
     let l = c.loop-at in
-    record {
-      at_in_bounds = (c.loop-at-test.true, c.requires.0, fewer (goal.at.node-requires c).Else-n-eq-MOST_NODES);
-      found = going_found _ _ _ _ _ _ l.invariant;
-      marks = l.invariant.marks;
-    }
-
-pub shape_of-starts-in-Stop : goal.shape_of-starts-in-Stop
-shape_of-starts-in-Stop c = going_length _ _ _ _ _ _ c.loop-at.invariant
-
-pub returns-in-Stop : goal.returns-in-Stop
-returns-in-Stop c =
-    let g = c.loop-at.invariant in
+    let g = l.invariant in
     let d = c.args.desc.now in
-    let r = c.in-Stop.r in
-    let found = step_stop _ _ r (sym c.node.ensures.value ∙ c.in-Stop.is) in
-    let all = answer-stopped _ _ _ _ _ _ g _ r (going_stop _ _ _ _ _ _ g c.loop-at-test.true (fewer (goal.at.returns-in-Stop c).Else-n-eq-MOST_NODES) r found)
-    (gives-node d (nodes_to d c.loop-at.n) c.loop-at.at r found ∙ nodes-length d c.loop-at.n) in
-    record {
-      value = all.0;
-      starts_after = all.1.0;
-      by_index = all.1.1;
-    }
+    let p = err_from_is_err_and c.from_residual.result c.from_residual.ensures.1 in
+    let found = step_stop _ _ _ (sym c.in_err-end.ensures.value) in
+    let all = answer-stopped _ _ _ _ _ _ g _ (going_stop _ _ _ _ _ _ g c.loop-at-test.true (fewer (goal.at.returns-in_err-end c).Else-n-eq-MOST_NODES) _ found)
+    (gives-node d (nodes_to d l.n) l.at _ found ∙ nodes-length d l.n) in
+    record { value = p.1 ∙ ap Err p.2 ∙ all.0; starts_after = all.1; whole = rw (p.1) tt }
 
 pub offset_bounds-starts-n : goal.offset_bounds-starts-n
 offset_bounds-starts-n c = omega (arith, fewer-64 (goal.at.offset_bounds-starts-n c).Else-n-eq-MOST_NODES)
@@ -80,17 +70,10 @@ loop-at-smaller c = omega (arith, fewer-64 (goal.at.loop-at-smaller c).Else-n-eq
 pub loop-at-preserved : goal.loop-at-preserved
 loop-at-preserved c =
     let g = c.loop-at.invariant in
-    let on = step_next _ _ c.in-Next.end (sym c.node.ensures.value ∙ c.in-Next.is) in
-    rw on.1 (going_next _ _ _ _ _ _ g c.loop-at-test.true (fewer (goal.at.loop-at-preserved c).Else-n-eq-MOST_NODES) on.0 _ (c.node.ensures.marks_2 on.0))
-
-pub shape_of-starts : goal.shape_of-starts
-shape_of-starts c = going_length _ _ _ _ _ _ c.loop-at.invariant
+    let on = step_next _ _ _ (sym c.in_ok-end.ensures.value) in
+    rw on.1 (going_next _ _ _ _ _ _ g c.loop-at-test.true (fewer (goal.at.loop-at-preserved c).Else-n-eq-MOST_NODES) on.0 _ (c.node.ensures.marked on.0))
 
 pub returns : goal.returns
 returns c =
     let all = answer-parsed _ _ _ _ _ _ c.loop-at.invariant c.loop-at-test.false in
-    record {
-      value = all.0;
-      starts_after = all.1.0;
-      by_index = all.1.1;
-    }
+    record { value = all.0; starts_after = all.1.0; whole = all.1.1 }

@@ -1,5 +1,5 @@
 -- What is cleared lies between where the two entries begin, or the table's end.
-use Rattle.std.proofs.Common.{◌≡◌, ℕ, ◌-◌, ◌≤◌, min, List, ◌++◌, length, take, drop, replicate, ap, ◌∙◌, ap₂, mul-le-mul_left, arith}
+use Rattle.std.proofs.Common.{rules, ◌≡◌, ℕ, ◌-◌, ◌≤◌, min, List, ◌++◌, length, take, drop, replicate, ap, ◌∙◌, ap₂, mul-le-mul_left, arith}
 use borrow.Rule.Slice.PartMut.{mid_of, put_mid, mid_len, Post-is}
 use Rattle.reader.specs.Inner.Windows.{forgotten}
 use Rattle.reader.proofs.tables.forget.Goals as goal
@@ -11,8 +11,8 @@ module _ (c : After-first_word-to) where
   order =
       omega (arith, c.first_word-from.ensures, c.first_word-to.ensures, mul-le-mul_left c.args.words c.requires.1)
 
-pub slice_bounds-clear-count : goal.slice_bounds-clear-count
-slice_bounds-clear-count c = order c
+pub slice_bounds-fill-count : goal.slice_bounds-fill-count
+slice_bounds-fill-count c = order c
 
 -- the part that came back is clear
 cleared : (xs ys : List ℕ) (a b from to : ℕ) → from ≡ min a (length xs) → to ≡ min b (length xs) → from ≤ to
@@ -26,4 +26,4 @@ cleared xs ys a b from to f t h e =
 
 pub returns : goal.returns
 returns c =
-    cleared _ _ _ _ _ _ c.first_word-from.ensures c.first_word-to.ensures (order (goal.at.returns c).After-first_word-to) c.clear.ensures
+    cleared _ _ _ _ _ _ c.first_word-from.ensures c.first_word-to.ensures (order (goal.at.returns c).After-first_word-to) (search rules)

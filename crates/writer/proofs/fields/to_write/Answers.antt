@@ -1,49 +1,41 @@
--- By the kind byte.
-use Rattle.std.proofs.Common.{ℕ, ◌≤◌, sym, ap, ◌∙◌, subst, lit≤, arith}
+-- By the kind.
+use Rattle.std.proofs.Common.{sym, ◌∙◌, lit≤}
 use Rattle.description.specs.Kinds.{kinds, row_of}
+use Rattle.description.specs.declared.kinds.Kind.TheVariants as kind
 use Rattle.description.proofs.Visiting.{body_bytes, number-range}
-use Rattle.writing.specs.declared.Field.TheVariants.{Bits, Signed}
-use Rattle.writer.proofs.Tables.{bits-field, signed-field, both-field, absorb-field, scan-field, other-field}
+use Rattle.writer.proofs.ByKind.{node_field-by, unwritable_by, nothing_by}
 use Rattle.writer.proofs.fields.to_write.Goals as goal
 
-pub field_of-requires : goal.field_of-requires
+pub field_of-requires-clause-inside : goal.field_of-requires-clause-inside
 unfolding row_of kinds
-field_of-requires c =
-    let p = c.requires in
-    (p, body_bytes _ _ _ p 2 1 (sym c.kind_of.ensures ∙ c.in-2.is) (lit≤ tt))
+field_of-requires-clause-inside c =
+    body_bytes _ _ _ (c.args.nodes.now.placed c.args.node c.requires) 2 1 (sym c.in-Bits.ensures) (lit≤ tt)
 
-pub field_of-requires-in-3 : goal.field_of-requires-in-3
+pub field_of-requires-in-Signed-clause-inside : goal.field_of-requires-in-Signed-clause-inside
 unfolding row_of kinds
-field_of-requires-in-3 c =
-    let p = c.requires in
-    (p, body_bytes _ _ _ p 3 1 (sym c.kind_of.ensures ∙ c.in-3.is) (lit≤ tt))
+field_of-requires-in-Signed-clause-inside c =
+    body_bytes _ _ _ (c.args.nodes.now.placed c.args.node c.requires) 3 1 (sym c.in-Signed.ensures) (lit≤ tt)
 
-pub returns-in-2 : goal.returns-in-2
-returns-in-2 c =
-    let e = sym c.kind_of.ensures ∙ c.in-2.is in
-    let f = c.field_of.ensures in
-    let p = c.requires in
-    (ap Bits f ∙ sym (bits-field _ _ e), subst (λ (w : ℕ). (1 ≤ w) × (w ≤ 32)) (sym f) (number-range _ _ _ p 2 e (lit≤ tt) (lit≤ tt)))
+pub returns-in-Bits : goal.returns-in-Bits
+returns-in-Bits c =
+    let p = c.args.nodes.now.placed c.args.node c.requires in
+    rw c.field_of.ensures (record {
+      value = sym (node_field-by _ _ kind.Bits c.in-Bits.ensures);
+      listed = number-range _ _ _ p 2 (sym c.in-Bits.ensures) (lit≤ tt) (lit≤ tt);
+    })
 
-pub returns-in-3 : goal.returns-in-3
-returns-in-3 c =
-    let e = sym c.kind_of.ensures ∙ c.in-3.is in
-    let f = c.field_of-in-3.ensures in
-    let p = c.requires in
-    (ap Signed f ∙ sym (signed-field _ _ e), subst (λ (w : ℕ). (1 ≤ w) × (w ≤ 32)) (sym f) (number-range _ _ _ p 3 e (lit≤ tt) (lit≤ tt)))
+pub returns-in-Signed : goal.returns-in-Signed
+returns-in-Signed c =
+    let p = c.args.nodes.now.placed c.args.node c.requires in
+    rw c.field_of-in-Signed.ensures (record {
+      value = sym (node_field-by _ _ kind.Signed c.in-Signed.ensures);
+      listed = number-range _ _ _ p 3 (sym c.in-Signed.ensures) (lit≤ tt) (lit≤ tt);
+    })
 
-pub returns-in-7 : goal.returns-in-7
-returns-in-7 c = (sym (both-field _ _ (sym c.kind_of.ensures ∙ c.in-7.is)), tt)
+pub returns-in-Both-clause-value : goal.returns-in-Both-clause-value
+returns-in-Both-clause-value c = sym (node_field-by _ _ _ c.kind_of.ensures ∙ unwritable_by _ _ c.in-Both.is)
 
-pub returns-in-11 : goal.returns-in-11
-returns-in-11 c = (sym (absorb-field _ _ (sym c.kind_of.ensures ∙ c.in-11.is)), tt)
-
-pub returns-in-12 : goal.returns-in-12
-returns-in-12 c = (sym (scan-field _ _ (sym c.kind_of.ensures ∙ c.in-12.is)), tt)
-
-pub returns-in_default : goal.returns-in_default
-returns-in_default c =
-    let same = c.kind_of.ensures in (
-      sym (other-field _ _ (λ e. omega arith) (λ e. omega arith) (λ e. omega arith) (λ e. omega arith) (λ e. omega arith)),
-      tt,
-    )
+pub returns-in_default-clause-value : goal.returns-in_default-clause-value
+returns-in_default-clause-value c =
+    let k = c.in_default in
+    sym (node_field-by _ _ _ c.kind_of.ensures ∙ nothing_by _ _ k.not-Bits k.not-Signed k.not-Both k.not-Absorb k.not-Scan)

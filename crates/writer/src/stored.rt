@@ -1,0 +1,92 @@
+// What is looked up of a node: what its field's numbers are checked and written by, so that no number is asked anything that its node has told.
+ghost use Rattle.std.specs.Prelude.{◌≡◌, ◌≤◌, ◌-◌, ◌^◌};
+
+use std::marker::Model;
+use writing::Field;
+
+// A field that can be written. 0 and no Option for a number that has no sign: it is moved up by nothing, and nothing is turned back, with no case for it;
+// the same of a field of which nothing is stored, which has no bits.
+#[derive(Clone, Copy, Default)]
+pub struct Stored {
+    // How many bits, 0 where nothing is stored.
+    width: u32,
+    // The largest number of that width.
+    most: u32,
+    // Half of what a two's complement number of that width can be, 0 for one that has no sign.
+    half: u32,
+}
+
+impl Model for Stored {
+    ghost use Rattle.std.specs.Prelude.{◌-◌, ◌^◌};
+    ghost use Rattle.writing.specs.Bits.{width_of};
+    ghost use Rattle.writing.specs.declared.Field.{Field};
+    ghost use Rattle.writer.specs.Inner.Stored.{field_with, half_of, IsLooked};
+
+    ghost Value = { Field };
+
+    ghost view = { λ s. field_with s.width s.half };
+
+    ghost invariant = { λ s. IsLooked (field_with s.width s.half) s.width s.most s.half };
+
+    ghost inverse = { λ f. record { width = width_of f; most = 2 ^ width_of f - 1; half = half_of f } };
+}
+
+impl Stored {
+    ghost use Rattle.std.specs.Prelude.{◌≡◌, ◌≤◌, ◌<◌, ◌^◌, ◌%◌, not, is_none, IfSome};
+    ghost use Rattle.writing.specs.Bits.{width_of, of_width};
+    ghost use Rattle.writing.specs.Fields.{is_unwritable};
+    ghost use Rattle.writer.specs.Inner.Stored.{Listed};
+
+    // None for a field that cannot be written.
+    #[tactic(auto, unfolding(writing::specs::Fields::is_unwritable))]
+    pub fn new(field: Field) -> Option<Stored>
+        requires { Listed field }
+        ensures unwritable { is_none result ≡ is_unwritable field }
+        ensures value { IfSome result (λ stored. stored ≡ field) }
+    {
+        match field {
+            Field::Nothing => Some(Stored::default()),
+            Field::Bits(w) => Some(Stored {
+                width: u32::from(w),
+                most: most_of(w),
+                half: 0,
+            }),
+            Field::Signed(w) => Some(Stored {
+                width: u32::from(w),
+                most: most_of(w),
+                half: 1 << (w - 1),
+            }),
+            Field::Unwritable => None,
+        }
+    }
+
+    pub fn width(self) -> u32
+        ensures value { result ≡ width_of self }
+        ensures most { result ≤ 32 }
+        ensures listed { Listed self }
+    {
+        self.width
+    }
+
+    // The bits of a number that is one of its width. Moved up by half of what there is, modulo 2^32, such a number lies below all of it; that has turned
+    // the bit of the sign over, which is then turned back.
+    pub fn bits_of(self, number: u32) -> Option<u32>
+        requires { 0 < width_of self }
+        ensures wrong { is_none result ≡ not (of_width self number) }
+        ensures value { IfSome result (λ bits. bits ≡ number % 2 ^ width_of self) }
+    {
+        let moved = number.wrapping_add(self.half);
+        if self.most < moved {
+            return None;
+        }
+        Some(moved ^ self.half)
+    }
+}
+
+// The largest number of w bits.
+fn most_of(w: u8) -> u32
+    requires { w ≤ 32 }
+    ensures { result ≡ 2 ^ w - 1 }
+{
+    ((1u64 << w) - 1) as u32
+}

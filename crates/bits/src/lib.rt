@@ -6,16 +6,16 @@ ghost use Rattle.bits.specs.Bits.{total, bit, number};
 ghost use Rattle.bits.specs.Whole.{twos_complement};
 ghost use Rattle.bits.specs.Lowest.{missing_bits, lowest, lowest_unsigned, lowest_signed};
 
-// Why a number cannot be read.
+/// Why a number cannot be read.
 #[derive(Clone, Copy, PartialEq, Eq, Debug)]
 pub enum Unread {
-    // The input ends before the last of the bits: how many are missing, counted from its end to theirs.
+    /// The input ends before the last of the bits: how many are missing, counted from its end to theirs.
     Missing(usize),
-    // The width is above 32.
+    /// The width is above 32.
     TooWide,
 }
 
-// The w bits from offset o on, as an unsigned number.
+/// The w bits from offset o on, as an unsigned number.
 #[tactic(auto, using(crate::proofs::Numbers::number_small), unfolding(crate::specs::Lowest::lowest))]
 pub fn unsigned(input: &[u8], o: usize, w: u8) -> Result<i64, Unread>
     ensures { result ≡ lowest_unsigned input.now o w }
@@ -23,7 +23,7 @@ pub fn unsigned(input: &[u8], o: usize, w: u8) -> Result<i64, Unread>
     Ok(read(input, o, w)? as i64)
 }
 
-// The w bits from offset o on, as a two's complement number.
+/// The w bits from offset o on, as a two's complement number.
 #[tactic(auto, unfolding(crate::specs::Lowest::lowest))]
 pub fn signed(input: &[u8], o: usize, w: u8) -> Result<i64, Unread>
     ensures { result ≡ lowest_signed input.now o w }
@@ -31,7 +31,7 @@ pub fn signed(input: &[u8], o: usize, w: u8) -> Result<i64, Unread>
     Ok(twos_complement(w, read(input, o, w)?))
 }
 
-// The number of the w bits from offset o on.
+// The number of the w bits from offset o on. What tells the bits stays loose down to here: any width is answered, and a `Run` has none above 32.
 #[tactic(auto, unfolding(crate::specs::Lowest::lowest))]
 fn read(input: &[u8], o: usize, w: u8) -> Result<u64, Unread>
     ensures { result ≡ lowest input.now o w (number input.now o w) }

@@ -2,7 +2,7 @@
 use crate::compare::{Reading, Tally};
 use crate::records::{COUNTERS, TEN_USED};
 
-// The counter turns between two readings.
+/// The counter turns between two readings.
 pub fn turns(tally: &mut Tally<impl Print>) {
     tally.over(Reading {
         name: "case A over FF FA 00 04: ten pulses used",
@@ -18,7 +18,7 @@ pub fn turns(tally: &mut Tally<impl Print>) {
     });
 }
 
-// No turn, and a record that is cut.
+/// No turn, and a record that is cut.
 pub fn others(tally: &mut Tally<impl Print>) {
     tally.over(Reading {
         name: "case A over 00 00 FF FF: 65,535 used",

@@ -1,7 +1,8 @@
 // One reading, with what was expected of it.
+use reader::{DESCRIPTOR_WORDS, VALUE_WORDS};
 use std::io;
 
-// What is read with what description, and what is to be printed of it.
+/// What is read with what description, and what is to be printed of it.
 #[derive(Clone, Copy)]
 pub struct Reading<'a> {
     pub name: &'a str,
@@ -10,7 +11,7 @@ pub struct Reading<'a> {
     pub expected: &'a str,
 }
 
-// How many readings were run, and how many came out as expected; and where they are told.
+/// How many readings were run, and how many came out as expected; and where they are told.
 #[derive(Drop)]
 pub struct Tally<'a, R> {
     rt: &'a R,
@@ -19,7 +20,7 @@ pub struct Tally<'a, R> {
 }
 
 // What stands in the tables before a call, so that what a call leaves is its own.
-pub const RUBBISH: u32 = 0xDEAD_BEEF;
+const RUBBISH: u32 = 0xDEAD_BEEF;
 
 impl<'a, R: Print> Tally<'a, R> {
     pub fn new(rt: &'a R) -> Tally<'a, R> {
@@ -30,19 +31,22 @@ impl<'a, R: Print> Tally<'a, R> {
         }
     }
 
-    // A reading with tables that are large enough.
+    /// A reading with tables that are large enough.
     pub fn over(&mut self, reading: Reading) {
-        self.with_tables(reading, &mut [RUBBISH; 64], &mut [RUBBISH; 64]);
+        self.with_room(64, 64, reading);
     }
 
-    // A reading with the tables that are lent.
-    pub fn with_tables(&mut self, reading: Reading, values: &mut [u32], descriptors: &mut [u32]) {
+    /// A reading with tables of so many words. A byte counts them, so that none can be asked for that are not there.
+    pub fn with_room(&mut self, values: u8, descriptors: u8, reading: Reading) {
+        let values = &mut [RUBBISH; u8::MAX as usize][..usize::from(values)];
+        let descriptors = &mut [RUBBISH; u8::MAX as usize][..usize::from(descriptors)];
         let answer = reader::read(reading.description, reading.input, values, descriptors);
         let mut text = [0u8; 512];
         let length = text::call(answer, values, descriptors, &mut text);
         let found = &text[..length];
-        let from = 4 * answer.map_or(0, |success| success.count) as usize;
-        let is_clear = is_clear_from(values, from) && is_clear_from(descriptors, from);
+        let count = answer.map_or(0, |success| success.count) as usize;
+        let is_clear = is_clear_from(values, VALUE_WORDS * count)
+            && is_clear_from(descriptors, DESCRIPTOR_WORDS * count);
         // Where a write fails, nothing is told of it.
         let _ = self.show(reading, found, is_clear);
         self.readings = self.readings.saturating_add(1);
@@ -62,7 +66,7 @@ impl<'a, R: Print> Tally<'a, R> {
         Ok(())
     }
 
-    // The last line.
+    /// The last line.
     pub fn count(self) {
         let Tally { rt, readings, same } = self;
         let _ = println!(rt; "{readings} readings, {same} as expected");

@@ -1,28 +1,28 @@
 // "Easy to get wrong".
-use crate::compare::{RUBBISH, Reading, Tally};
-use crate::records::ABANDONED;
+use crate::compare::{Reading, Tally};
+use crate::records::{ABANDONED, SECOND_ALONE};
 
-// An either abandons its first part: nothing of it is kept, and its room is not needed.
+/// An either abandons its first part: nothing of it is kept, and its room is not needed.
 pub fn abandoned(tally: &mut Tally<impl Print>) {
     tally.over(Reading {
         name: "either over A5: nothing of the abandoned part is kept",
         description: ABANDONED,
         input: b"\xA5",
-        expected: "ok 2 4\n4 0 4 0 0 0 2 2\n3 0 4 0 0 10 0 1\n",
+        expected: SECOND_ALONE,
     });
-    tally.with_tables(
+    tally.with_room(
+        8,
+        8,
         Reading {
             name: "either over A5, room 2: the abandoned part outgrew it, the kept entries do not",
             description: ABANDONED,
             input: b"\xA5",
-            expected: "ok 2 4\n4 0 4 0 0 0 2 2\n3 0 4 0 0 10 0 1\n",
+            expected: SECOND_ALONE,
         },
-        &mut [RUBBISH; 8],
-        &mut [RUBBISH; 8],
     );
 }
 
-// At most one error from each side.
+/// At most one error from each side.
 pub fn one_from_each_side(tally: &mut Tally<impl Print>) {
     tally.over(Reading {
         name: "then of a then of two bottoms: 1 error above 2",
@@ -32,7 +32,7 @@ pub fn one_from_each_side(tally: &mut Tally<impl Print>) {
     });
 }
 
-// A round that goes on though its element stands still.
+/// A round that goes on though its element stands still.
 pub fn whole_round(tally: &mut Tally<impl Print>) {
     tally.over(Reading {
         name: "sequence over 2A 00 00 00: the separator moves while the element stands still",
@@ -42,7 +42,7 @@ pub fn whole_round(tally: &mut Tally<impl Print>) {
     });
 }
 
-// Binds are counted outward.
+/// Binds are counted outward.
 pub fn binds(tally: &mut Tally<impl Print>) {
     tally.over(Reading {
         name: "three binds over 01 02 03: number 2 outward from 0 is the farthest",

@@ -2,7 +2,7 @@
 use crate::compare::{Reading, Tally};
 use crate::records::{EITHER, FIVES};
 
-// 8 bits that are 2A, or else 4 bits.
+/// 8 bits that are 2A, or else 4 bits.
 pub fn eithers(tally: &mut Tally<impl Print>) {
     tally.over(Reading {
         name: "either over 2A: detail 1, three entries, end 8",
@@ -24,7 +24,7 @@ pub fn eithers(tally: &mut Tally<impl Print>) {
     });
 }
 
-// 5 bits, again and again.
+/// 5 bits, again and again.
 pub fn sequences(tally: &mut Tally<impl Print>) {
     tally.over(Reading {
         name: "sequence over 00: two elements, 1 error, err, end 5",
@@ -40,7 +40,7 @@ pub fn sequences(tally: &mut Tally<impl Print>) {
     });
 }
 
-// A scan, a signed number, and the widest bits.
+/// A scan, a signed number, and the widest bits.
 pub fn numbers(tally: &mut Tally<impl Print>) {
     tally.over(Reading {
         name: "scan over 00 2A: skipped 8, 1 error, end 16",
@@ -62,7 +62,7 @@ pub fn numbers(tally: &mut Tally<impl Print>) {
     });
 }
 
-// Descriptions that are refused.
+/// Descriptions that are refused.
 pub fn refusals(tally: &mut Tally<impl Print>) {
     tally.over(Reading {
         name: "02 21: refused 5",
@@ -90,7 +90,7 @@ pub fn refusals(tally: &mut Tally<impl Print>) {
     });
 }
 
-// Request 1: how many bits were missing.
+/// Request 1: how many bits were missing.
 pub fn missing(tally: &mut Tally<impl Print>) {
     tally.over(Reading {
         name: "signed 16 from bit 5 of FF FF: 5 bits missing",

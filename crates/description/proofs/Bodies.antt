@@ -1,7 +1,8 @@
 -- What the table of kinds says of a kind by its byte.
 use Prim.Native.Nat.{ℕ, ◌≤◌, ◌<◌}
-use mathlib.Core.Path.{◌≡◌}
-use Rattle.std.specs.Prelude.{Some}
+use mathlib.Core.Path.{◌≡◌, refl}
+use Rattle.std.specs.Prelude.{Some, Result, Ok, Err}
+use Rattle.std.specs.Result.{MatchResult, IsOk}
 use borrow.Author.Tests.{lt-leb}
 use lib.Dec.{lit≤, lit<}
 use lib.ListN.{length, get_or-eq_default}
@@ -50,3 +51,8 @@ module _ (kind : ℕ) where
       by_kind (λ k. (row_of k).bytes ≤ 12) (lit≤ tt) (lit≤ tt) (lit≤ tt) (lit≤ tt) (lit≤ tt) (lit≤ tt) (lit≤ tt) (lit≤ tt) (lit≤ tt) (lit≤ tt) (lit≤ tt) (lit≤ tt) (lit≤ tt)
       (λ k h. rw (get_or-eq_default kinds unit_row h) (lit≤ tt))
       kind
+
+-- what is given of a byte is a value, where the byte is none that is refused
+pub no-error : {T E : Type 0} (r : Result T E) (P : T → Type 0) (Q : E → Type 0) → MatchResult r P Q → ((e : E) → Q e → ⊥) → IsOk r
+no-error (Ok x) P Q given none = refl
+no-error (Err e) P Q given none = absurd (none e given)

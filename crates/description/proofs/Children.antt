@@ -30,20 +30,27 @@ module _ (d : List ℕ) (i k : ℕ) where
   unfolding children_at
   children-none = let none : k - k ≡ 0 = omega arith in ap (children_at d (i + k)) none
 
+-- where none of the children is not smaller, the first is smaller, and none of the others is not
+pub smaller-parts : (n c : ℕ) (cs : List ℕ) → some_not_smaller n (c ∷ cs) ≡ false → (c < n) × (some_not_smaller n cs ≡ false)
+unfolding some_not_smaller
+smaller-parts n c cs e =
+    let parts = or_parts (leb n c) (some_not_smaller n cs) e in
+    (leb-false n c parts.0, parts.1)
+
 -- each of the children is smaller, where none is not
 pub children-smaller : (d : List ℕ) (n p k j : ℕ) → some_not_smaller n (children_at d p k) ≡ false → j < k → byte d (p + j) < n
 unfolding children_at some_not_smaller
 children-smaller d n p zero j e h = absurd (omega arith)
 children-smaller d n p (suc k) zero e h =
-    rw (add-zero p) (leb-false n (byte d p) (or_parts (leb n (byte d p)) (some_not_smaller n (children_at d (p + 1) k)) e).0)
+    rw (add-zero p) (smaller-parts n (byte d p) (children_at d (p + 1) k) e).0
 children-smaller d n p (suc k) (suc j) e h =
     let on : p + suc j ≡ p + 1 + j = omega arith in
-    rw on (children-smaller d n (p + 1) k j (or_parts (leb n (byte d p)) (some_not_smaller n (children_at d (p + 1) k)) e).1 (omega arith))
+    rw on (children-smaller d n (p + 1) k j (smaller-parts n (byte d p) (children_at d (p + 1) k) e).1 (omega arith))
 
 -- a list that has none that is not smaller than n has none that is not smaller than m
 pub smaller-still : (n m : ℕ) (cs : List ℕ) → n ≤ m → some_not_smaller n cs ≡ false → some_not_smaller m cs ≡ false
 unfolding some_not_smaller
 smaller-still n m [] h e = refl
 smaller-still n m (c ∷ cs) h e =
-    let below = leb-false n c (or_parts (leb n c) (some_not_smaller n cs) e).0 in
-    rw (lt-leb m c (omega arith)) (smaller-still n m cs h (or_parts (leb n c) (some_not_smaller n cs) e).1)
+    let parts = smaller-parts n c cs e in
+    rw (lt-leb m c (omega (arith, parts.0))) (smaller-still n m cs h parts.1)

@@ -6,9 +6,9 @@ use mathlib.Core.List.{List, [], ◌∷◌, ◌++◌, append-nil}
 use mathlib.Core.Path.{◌≡◌, refl, ap, ◌∙◌}
 use native.Mathlib.Decide.{ℕ_discrete}
 use native.Mathlib.Omega.{arith}
-use lib.Dec.{eqb, leb, lit≤}
+use lib.Dec.{eqb, lit≤}
 use lib.ListN.{length}
-use borrow.Author.Tests.{leb-false, eq-eqb, ne_eqb}
+use borrow.Author.Tests.{eq-eqb, ne_eqb}
 use Rattle.description.specs.Binds.{binds}
 use Rattle.description.specs.Check.{is_in, some_not_smaller, some_named_before, named_by, node_at, parsed, nodes_from}
 use Rattle.description.specs.Limits.{most_nodes, most_binds}
@@ -16,6 +16,7 @@ use Rattle.description.specs.Nodes.{Node, children}
 use Rattle.description.specs.Places.{start, nodes_to, tree_of, Stands}
 use Rattle.description.specs.Trees.{Tree, unit, bottom, bits, signed, then, bind, either, both, where', sequence, compute, absorb, scan, tree, trees_after, root_tree}
 use Rattle.std.proofs.lemmas.Bool.{or_parts}
+use Rattle.description.proofs.Children.{smaller-parts}
 use Rattle.description.proofs.Marking.{in_moved, named_snoc}
 use Rattle.description.proofs.Reached.{first-nodes}
 use Rattle.description.proofs.Standing.{tests, smaller}
@@ -100,8 +101,8 @@ module _ (f : ℕ → ℕ) where
   unfolding sum some_not_smaller some_named_before
   unnamed-children n names [] below new = rw append-nil (omega arith)
   unnamed-children n names (c ∷ cs) below new =
-      let first = unnamed-less names c (or_parts (is_in c names) (some_named_before (c ∷ names) cs) new).0 n (leb-false n c (or_parts (leb n c) (some_not_smaller n cs) below).0) in
-      let rest = unnamed-children n (c ∷ names) cs (or_parts (leb n c) (some_not_smaller n cs) below).1 (or_parts (is_in c names) (some_named_before (c ∷ names) cs) new).1 in
+      let first = unnamed-less names c (or_parts (is_in c names) (some_named_before (c ∷ names) cs) new).0 n (smaller-parts n c cs below).0 in
+      let rest = unnamed-children n (c ∷ names) cs (smaller-parts n c cs below).1 (or_parts (is_in c names) (some_named_before (c ∷ names) cs) new).1 in
       omega (arith, first, rest, unnamed-same (c ∷ names ++ cs) (names ++ c ∷ cs) (λ i. in_moved i names c cs) n)
 
 -- a node's tree has the nodes of its children's trees, and its own

@@ -1,11 +1,11 @@
 -- What a description means, step by step as it is examined, and what a reader then rests on.
-use Prim.Native.Nat.{ℕ, zero, suc, ◌≤◌, ◌<◌}
+use Prim.Native.Nat.{ℕ, zero, suc, ◌+◌, ◌-◌, ◌≤◌, ◌<◌}
 use mathlib.Core.Bool.{Bool}
 use mathlib.Core.List.{List, []}
 use mathlib.Core.Option.{none}
 use mathlib.Core.Path.{◌≡◌, sym, ap, subst, ◌∙◌}
 use native.Mathlib.Omega.{arith}
-use lib.ListN.{length}
+use lib.ListN.{length, take}
 use lib.Seq.{sets}
 use Rattle.description.specs.Binds.{needs, binds}
 use Rattle.description.specs.Check.{Parsed, parsed, stopped, nodes_from, first_of, refuse_if, tree_refusal, accepted, refused, meaning}
@@ -13,15 +13,16 @@ use Rattle.description.specs.Examine.{examined, starts_after, Readable}
 use Rattle.description.specs.Inner.Steps.{judged, counted, Whole}
 use Rattle.description.specs.Limits.{most_bytes, most_nodes, most_binds}
 use Rattle.description.specs.Nodes.{Node}
-use Rattle.description.specs.Places.{start, starts_to, nodes_to, standing, placed_starts}
+use Rattle.description.specs.Places.{start, starts_to, nodes_to, Found, Known, Placed, standing, placed_starts}
 use Rattle.description.specs.Trees.{root_tree}
 use Rattle.std.specs.Prelude.{IfOk, Result, Ok, Err}
 use Rattle.description.specs.declared.Refusal.{Refusal}
 use Rattle.description.specs.declared.Refusal.TheVariants.{EmptyOrTooLong}
 use Rattle.description.proofs.Enclosing.{few-binds}
-use Rattle.description.proofs.Judging.{node-placed, tree_is}
+use Rattle.description.proofs.Judging.{tree_is}
 use Rattle.description.proofs.Numbered.{nodes-length}
 use Rattle.description.proofs.Parsing.{from_end}
+use Rattle.description.proofs.Standing.{found-placed, found-length, found-known}
 
 -- what the parse's answer says of the parse
 pub counted-stopped : (p : Parsed) (r : Refusal) → counted p ≡ Err r → p ≡ stopped r
@@ -90,13 +91,16 @@ module _ (d : List ℕ) where
 
       found : tree_refusal (nodes_to d n) ≡ none → Readable d starts n
       found clear =
-          let tree = tree_is d starts flags n short some-node w in
+          let tree = tree_is d flags n w.few some-node w.marks in
           record {
-            some-node = some-node;
-            means = meaning-accepted (nodes_to d n) w.nodes-are clear ∙ ap accepted tree;
-            placed = node-placed d starts flags n short some-node w;
-            bound = sym (ap needs tree) ∙ clear-tree (nodes_to d n) clear;
-            few-binds = subst (λ t. binds t ≤ most_binds) tree (few-binds d (nodes_to d n) w.nodes-are);
+            root =
+                record {
+                  some-node = some-node;
+                  means = meaning-accepted (nodes_to d n) w.nodes-are clear ∙ ap accepted tree;
+                  bound = sym (ap needs tree) ∙ clear-tree (nodes_to d n) clear;
+                  few-binds = subst (λ t. binds t ≤ most_binds) tree (few-binds d (nodes_to d n) w.nodes-are);
+                };
+            placed = λ k. found-placed d starts n k short w.few w.found;
           }
 
       pub readable : (r : Result ℕ Refusal) → r ≡ judged (nodes_to d n) → IfOk r (Readable d starts)
@@ -104,3 +108,25 @@ module _ (d : List ℕ) where
       readable (Ok m) e =
           let clear = judged-nodes (nodes_to d n) m (sym e) in
           subst (Readable d starts) (sym (nodes-length d n) ∙ clear.1) (found clear.0)
+
+-- what can be read has its nodes in the front of `starts`
+module _ (d starts : List ℕ) (n : ℕ) (r : Readable d starts n) where
+  last : Placed d starts (n - 1)
+  last = r.placed (n - 1) (omega (arith, r.root.some-node))
+
+  all-found : Found d starts n
+  all-found =
+      let all : n - 1 + 1 ≡ n = omega (arith, r.root.some-node) in
+      subst (Found d starts) all last.found
+
+  pub readable-short : length d ≤ most_bytes
+  readable-short = last.short
+
+  pub readable-few : n ≤ most_nodes
+  readable-few = omega (arith, last.few)
+
+  pub readable-length : length (take n starts) ≡ n
+  readable-length = found-length d starts n readable-few all-found
+
+  pub readable-known : (k : ℕ) → k < length (take n starts) → Known d (take n starts) k
+  readable-known = found-known d starts n readable-few all-found

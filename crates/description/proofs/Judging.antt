@@ -8,20 +8,17 @@ use lib.ListN.{length}
 use Rattle.std.specs.Prelude.{Some, None, Ok, Err, not, position, take}
 use Rattle.description.specs.Binds.{needs}
 use Rattle.description.specs.Check.{refuse_if, first_of, named_by, never_named, tree_refusal}
-use Rattle.description.specs.Inner.Steps.{judged, Whole}
-use Rattle.description.specs.Limits.{most_bytes}
-use Rattle.description.specs.Places.{nodes_to, tree_of, Placed}
+use Rattle.description.specs.Inner.Names.{Marks}
+use Rattle.description.specs.Inner.Steps.{judged}
+use Rattle.description.specs.Limits.{most_nodes}
+use Rattle.description.specs.Places.{nodes_to, tree_of}
 use Rattle.description.specs.Trees.{root_tree}
 use Rattle.description.specs.declared.Refusal.TheVariants.{NeverNamed, NoEnclosingBind}
 use Rattle.description.proofs.Marking.{refusal_of, unmarked-unnamed}
 use Rattle.description.proofs.Numbered.{nodes-length}
-use Rattle.description.proofs.Standing.{found-placed}
 
 -- a parse that reached the end, with n nodes
-module _ (d starts : List ℕ) (flags : List Bool) (n : ℕ) (short : length d ≤ most_bytes) (h : 0 < n) (w : Whole d starts flags n) where
-  pub node-placed : (k : ℕ) → k < n → Placed d starts k
-  node-placed k l = found-placed d starts n k short w.few w.found l
-
+module _ (d : List ℕ) (flags : List Bool) (n : ℕ) (few : n ≤ most_nodes) (h : 0 < n) (marks : Marks flags (named_by (nodes_to d n))) where
   root_is : length (nodes_to d n) - 1 ≡ n - 1
   root_is = omega (arith, nodes-length d n)
 
@@ -30,7 +27,7 @@ module _ (d starts : List ℕ) (flags : List Bool) (n : ℕ) (short : length d �
   tree_is = let e : n ≡ suc (n - 1) = omega arith in ap (λ (k : ℕ). root_tree (nodes_to d k)) e
 
   unnamed-is : never_named (named_by (nodes_to d n)) 0 (length (nodes_to d n) - 1) ≡ refusal_of (position not (take (n - 1) flags))
-  unnamed-is = rw root_is (unmarked-unnamed flags (named_by (nodes_to d n)) (n - 1) w.marks (omega (arith, w.few)))
+  unnamed-is = rw root_is (unmarked-unnamed flags (named_by (nodes_to d n)) (n - 1) marks (omega arith))
 
   pub judge_9 : (i : ℕ) → position not (take (n - 1) flags) ≡ Some i → judged (nodes_to d n) ≡ Err (NeverNamed i)
   unfolding judged tree_refusal first_of refusal_of

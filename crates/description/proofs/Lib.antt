@@ -3,7 +3,7 @@ pub mod Choice
 pub mod Ranges
 pub mod Bodies
 mod Cuts
-mod Children
+pub mod Children
 mod Rows
 pub mod Refusing
 pub mod Marking

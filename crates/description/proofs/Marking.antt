@@ -6,22 +6,21 @@ use mathlib.Core.Option.{Option, none, some}
 use mathlib.Core.Path.{◌≡◌, refl, sym, ap, ap₂, ◌∙◌}
 use native.Mathlib.Nat.{add-zero}
 use native.Mathlib.Omega.{arith}
-use lib.Dec.{eqb, leb}
+use lib.Dec.{eqb}
 use lib.ListN.{length, take, get_or, set, length-set, replicate, length-replicate, get_or-replicate}
-use borrow.Author.Tests.{leb-false}
 use Rattle.std.specs.Prelude.{Some, None, cond, not, position}
 use Rattle.std.specs.Prelude as std
 use Rattle.std.specs.List.{position_from}
 use Rattle.std.proofs.lemmas.Iterator.Adapters.{position_from-zero}
 use Rattle.std.proofs.lemmas.List.Folds.{list_any-append}
 use Rattle.std.proofs.lemmas.Grind.{common_steps}
+use Rattle.description.proofs.Children.{smaller-parts}
 use Rattle.description.specs.Check.{is_in, some_not_smaller, some_named_before, named_by, never_named}
 use Rattle.description.specs.Limits.{most_nodes}
 use Rattle.description.specs.Inner.Names.{Marks, some_marked, marked}
 use Rattle.description.specs.Nodes.{Node, children}
 use Rattle.description.specs.declared.Refusal.{Refusal}
 use Rattle.description.specs.declared.Refusal.TheVariants.{NeverNamed}
-use Rattle.std.proofs.lemmas.Bool.{or_parts}
 
 -- a number is in two lists together where it is in one of them
 pub in_append : (i : ℕ) (xs ys : List ℕ) → is_in i (xs ++ ys) ≡ (is_in i xs || is_in i ys)
@@ -50,16 +49,16 @@ pub tested : (flags : List Bool) (names cs : List ℕ) → Marks flags names →
 unfolding some_marked some_named_before some_not_smaller
 tested flags names [] m below = refl
 tested flags names (c ∷ cs) m below =
-    let h = leb-false most_nodes c (or_parts (leb most_nodes c) (some_not_smaller most_nodes cs) below).0 in
+    let h = (smaller-parts most_nodes c cs below).0 in
     ap₂ ◌||◌ (m.at c h)
-    (tested (set flags c true) (c ∷ names) cs (mark_one flags names c h m) (or_parts (leb most_nodes c) (some_not_smaller most_nodes cs) below).1)
+    (tested (set flags c true) (c ∷ names) cs (mark_one flags names c h m) (smaller-parts most_nodes c cs below).1)
 
 pub marking : (flags : List Bool) (names cs : List ℕ) → Marks flags names → some_not_smaller most_nodes cs ≡ false → Marks (marked flags cs) (names ++ cs)
 unfolding marked some_not_smaller
 marking flags names [] m below = rw append-nil m
 marking flags names (c ∷ cs) m below =
-    let h = leb-false most_nodes c (or_parts (leb most_nodes c) (some_not_smaller most_nodes cs) below).0 in
-    let later = marking (set flags c true) (c ∷ names) cs (mark_one flags names c h m) (or_parts (leb most_nodes c) (some_not_smaller most_nodes cs) below).1 in
+    let h = (smaller-parts most_nodes c cs below).0 in
+    let later = marking (set flags c true) (c ∷ names) cs (mark_one flags names c h m) (smaller-parts most_nodes c cs below).1 in
     record { all = later.all; at = λ i l. later.at i l ∙ in_moved i names c cs }
 
 -- the names of one node more

@@ -5,7 +5,8 @@ use mathlib.Core.List.{List}
 use mathlib.Core.Path.{◌≡◌, sym, ap, ◌∙◌}
 use borrow.Author.Tests.{leb-false, ltb-false, not-false}
 use native.Mathlib.Omega.{arith}
-use lib.ListN.{length, get_or}
+use lib.ListN.{length, take}
+use Rattle.std.proofs.lemmas.List.{get_or-take, length-take}
 use Rattle.description.specs.Binds.{needs, binds}
 use Rattle.description.specs.Bodies.{child_count}
 use Rattle.description.specs.Inner.Children.{children_at, own_needs}
@@ -13,7 +14,7 @@ use Rattle.description.specs.Check.{some_not_smaller, node_at, node_end}
 use Rattle.description.specs.Kinds.{byte, kinds, row_of}
 use Rattle.description.specs.Limits.{most_bytes, most_nodes}
 use Rattle.description.specs.Nodes.{children}
-use Rattle.description.specs.Places.{start, nodes_to, kind_of, field_of, tree_of, Stands, Found, Placed}
+use Rattle.description.specs.Places.{start, nodes_to, kind_of, field_of, tree_of, Stands, Found, Known, Placed}
 use Rattle.description.proofs.Rows.{count-bytes, child-smaller}
 use Rattle.description.proofs.Numbered.{nodes-length}
 use Rattle.description.proofs.Refusing.{Passed, passed}
@@ -38,29 +39,30 @@ module _ (d : List ℕ) (node : ℕ) (s : Stands d node) where
   pub smaller : some_not_smaller node (children (node_at d (start d node))) ≡ false
   smaller = sym (ap (λ (n : ℕ). some_not_smaller n (children (node_at d (start d node)))) (nodes-length d node)) ∙ tests.smaller
 
-module _ (d starts : List ℕ) (node : ℕ) (p : Placed d starts node) where
-  pub begins : get_or starts node 0 ≡ start d node
-  begins = p.found.placed node (omega arith)
+-- and in the front of `starts`, for whoever visits them
+module _ (d starts : List ℕ) (n : ℕ) (few : n ≤ most_nodes) (found : Found d starts n) where
+  pub found-length : length (take n starts) ≡ n
+  found-length = grind (arith, length-take, found.room)
 
-  stands : Stands d node
-  stands = p.found.stand node (omega arith)
+  pub found-known : (k : ℕ) → k < length (take n starts) → Known d (take n starts) k
+  found-known k h =
+      let l : k < n = omega (arith, found-length) in
+      record { few = omega arith; begins = get_or-take n starts k 0 l ∙ found.placed k l; stands = found.stand k l }
 
-  pub kind-inside : start d node < length d
-  kind-inside = stands.begins
-
+module _ (d starts : List ℕ) (node : ℕ) (p : Known d starts node) where
   -- its kind byte is in the table
   pub kind_below : kind_of d node < length kinds
   unfolding kind_of
-  kind_below = leb-false (length kinds) (byte d (start d node)) (tests d node stands).kind
+  kind_below = leb-false (length kinds) (byte d (start d node)) (tests d node p.stands).kind
 
   pub body_inside : start d node + 1 + (row_of (kind_of d node)).bytes ≤ length d
   unfolding node_end kind_of
-  body_inside = ltb-false (length d) (node_end d (start d node)) (tests d node stands).whole
+  body_inside = ltb-false (length d) (node_end d (start d node)) (tests d node p.stands).whole
 
   -- its width, relation, operator and operands are listed
   pub listed_here : (row_of (kind_of d node)).listed d (start d node + 1) ≡ true
   unfolding kind_of
-  listed_here = not-false ((row_of (kind_of d node)).listed d (start d node + 1)) (tests d node stands).listed
+  listed_here = not-false ((row_of (kind_of d node)).listed d (start d node + 1)) (tests d node p.stands).listed
 
   -- its child at place j
   module _ (j : ℕ) (h : j < child_count (kind_of d node)) where
@@ -69,16 +71,12 @@ module _ (d starts : List ℕ) (node : ℕ) (p : Placed d starts node) where
 
     pub child-below : field_of d node j < node
     unfolding kind_of field_of
-    child-below = child-smaller d (start d node) node j (smaller d node stands) h
-
-  -- the nodes before it
-  pub smaller-placed : (k : ℕ) → k < node → Placed d starts k
-  smaller-placed k h = found-placed d starts (node + 1) k p.short (omega (arith, p.few)) p.found (omega arith)
+    child-below = child-smaller d (start d node) node j (smaller d node p.stands) h
 
   -- its tree, by its kind byte
   pub tree-here : tree_of d node ≡ tree (tree_of d) node ((row_of (kind_of d node)).node d (start d node + 1))
   unfolding node_at kind_of
-  tree-here = tree_of_lem d node (smaller d node stands)
+  tree-here = tree_of_lem d node (smaller d node p.stands)
 
   -- what its tree needs, and the binds in it, by its children
   pub needs-here : needs (tree_of d node) ≡ walk (kind_of d node) ◌-◌ (λ c. needs (tree_of d c)) (own_needs d (kind_of d node) (start d node + 1)) 0 (children_at d (start d node + 1) (child_count (kind_of d node)))

@@ -4,14 +4,12 @@ use mathlib.Core.Bool.{false}
 use mathlib.Core.List.{List, [], ◌∷◌, ◌++◌}
 use mathlib.Core.Path.{◌≡◌, refl, sym, ap, ◌∙◌}
 use native.Mathlib.Omega.{arith}
-use lib.Dec.{leb}
 use lib.ListN.{length, get_or, length-append}
-use borrow.Author.Tests.{leb-false}
 use Rattle.description.specs.Check.{some_not_smaller, node_at}
 use Rattle.description.specs.Nodes.{Node, children}
 use Rattle.description.specs.Places.{start, nodes_to, tree_of}
 use Rattle.description.specs.Trees.{Tree, unit, tree, trees_after, root_tree}
-use Rattle.std.proofs.lemmas.Bool.{or_parts}
+use Rattle.description.proofs.Children.{smaller-parts}
 use Rattle.description.proofs.Numbered.{grown-at, nodes-length}
 
 -- The tree of the next node, after the trees of those before.
@@ -32,12 +30,10 @@ trees-length before (n ∷ ns) =
 module _ (f g : ℕ → Tree) (n : ℕ) (same : (c : ℕ) → c < n → f c ≡ g c) where
   -- the trees of children below n
   first : (a : ℕ) (cs : List ℕ) → some_not_smaller n (a ∷ cs) ≡ false → f a ≡ g a
-  unfolding some_not_smaller
-  first a cs e = same a (leb-false n a (or_parts (leb n a) (some_not_smaller n cs) e).0)
+  first a cs e = same a (smaller-parts n a cs e).0
 
   rest : (a : ℕ) (cs : List ℕ) → some_not_smaller n (a ∷ cs) ≡ false → some_not_smaller n cs ≡ false
-  unfolding some_not_smaller
-  rest a cs e = (or_parts (leb n a) (some_not_smaller n cs) e).1
+  rest a cs e = (smaller-parts n a cs e).1
 
   -- a node's tree depends on its children's trees alone
   same-tree : (k : ℕ) (node : Node) → some_not_smaller n (children node) ≡ false → tree f k node ≡ tree g k node

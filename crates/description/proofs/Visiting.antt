@@ -11,12 +11,12 @@ use Rattle.description.specs.Binds.{needs_of, needs, binds}
 use Rattle.description.specs.Bodies.{child_count}
 use Rattle.description.specs.Inner.Children.{binding, own_needs}
 use Rattle.description.specs.Kinds.{byte, is_width, is_signed_width, is_relation, relation, is_operator, operator, unit_row, kinds, row_of}
-use Rattle.description.specs.Places.{start, kind_of, field_of, operand_of, tree_of, Placed}
+use Rattle.description.specs.Places.{start, kind_of, field_of, operand_of, tree_of, Known}
 use Rattle.description.specs.Trees.{Tree, unit, bottom, bits, signed, then, bind, either, both, where', sequence, compute, absorb, scan, tree}
 use Rattle.description.proofs.Bodies.{row-past}
 use Rattle.std.proofs.lemmas.Bool.{and_parts}
 use Rattle.description.proofs.Ranges.{between, by_kind}
-use Rattle.description.proofs.Standing.{listed_here, child-below, smaller-placed, tree-here, needs-here, binds-here}
+use Rattle.description.proofs.Standing.{listed_here, child-below, tree-here, needs-here, binds-here}
 use Rattle.description.proofs.Walking.{walk-child}
 
 -- A width that is listed.
@@ -77,7 +77,7 @@ module _ (d : List ℕ) (node : ℕ) where
       past : (k : ℕ) → 13 ≤ k → AsRow k
       past k h = rw (row-past k h) (sym (get_or-eq_default trees_as (unit node) h))
 
-module _ (d starts : List ℕ) (node : ℕ) (p : Placed d starts node) where
+module _ (d starts : List ℕ) (node : ℕ) (p : Known d starts node) where
   pub tree_is : (kind : ℕ) → kind_of d node ≡ kind → tree_of d node ≡ tree_as d node kind
   tree_is kind e = tree-here d starts node p ∙ as_row d node (kind_of d node) ∙ ap (tree_as d node) e
 
@@ -114,9 +114,6 @@ module _ (d starts : List ℕ) (node : ℕ) (p : Placed d starts node) where
 
   pub child-smaller : (j : ℕ) → j < child_count (kind_of d node) → field_of d node j < node
   child-smaller j h = child-below d starts node p j h
-
-  pub child-placed : (j : ℕ) → j < child_count (kind_of d node) → Placed d starts (field_of d node j)
-  child-placed j h = smaller-placed d starts node p (field_of d node j) (child-below d starts node p j h)
 
   -- the widths of bits, signed and compute
   listed_as : (kind : ℕ) → kind_of d node ≡ kind → (row_of kind).listed d (start d node + 1) ≡ true

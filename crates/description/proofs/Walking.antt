@@ -65,9 +65,6 @@ module _ (d : List ℕ) (node : ℕ) (step : ℕ → ℕ → ℕ) (value : ℕ �
       }
 
   module _ (kind children most j : ℕ) (l : Left kind children most j) where
-    pub has-child : j < children → j < child_count (kind_of d node)
-    has-child h = subst (λ (n : ℕ). j < n) (l.children-are ∙ ap child_count l.kind-is) h
-
     pub walk-next : (more : ℕ) → j < children → more ≡ max most (step (value (field_of d node j)) (binding kind j)) → Left kind children more (j + 1)
     unfolding walk field_of
     walk-next more h e =

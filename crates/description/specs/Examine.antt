@@ -14,11 +14,15 @@ examined desc = elim (meaning desc) [ refused r ↦ Err r | accepted tree ↦ Ok
 unfoldable pub starts_after : List ℕ → List ℕ → List ℕ
 starts_after desc starts = elim (ltb most_bytes (length desc)) [ true ↦ starts | false ↦ placed_starts desc starts ]
 
--- What a reader rests on where n nodes were found: the last is the root of what the description means, each can be visited, each operand
--- names an enclosing bind, and there are no more than 31 of them around one node.
-pub record Readable (desc starts : List ℕ) (n : ℕ) : Type 0 where
+-- The last of n nodes is the root of what the description means, each operand names an enclosing bind, and there are no more than 31 of them around
+-- one node.
+pub record Rooted (desc : List ℕ) (n : ℕ) : Type 0 where
   pub some-node : 0 < n
   pub means : meaning desc ≡ accepted (tree_of desc (n - 1))
-  pub placed : (k : ℕ) → k < n → Placed desc starts k
   pub bound : needs (tree_of desc (n - 1)) ≡ 0
   pub few-binds : binds (tree_of desc (n - 1)) ≤ most_binds
+
+-- What a reader rests on where n nodes were found: the last is the root, and each can be visited.
+pub record Readable (desc starts : List ℕ) (n : ℕ) : Type 0 where
+  pub root : Rooted desc n
+  pub placed : (k : ℕ) → k < n → Placed desc starts k

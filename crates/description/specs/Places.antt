@@ -58,11 +58,17 @@ abbrev pub meant : answers.Operand → Operand
 meant (Constant z) = constant z
 meant (Bound k) = bound k
 
--- What is known where a node is visited: it is among those that a description may have, and it and all before it stand.
+-- What the check says of a node: it is among those that a description may have, and it and all before it stand.
 pub record Placed (desc starts : List ℕ) (node : ℕ) : Type 0 where
   pub short : length desc ≤ most_bytes
   pub few : node < most_nodes
   pub found : Found desc starts (node + 1)
+
+-- What is known of a node where it is visited: it is among those that a description may have, `starts` has where it begins, and it stands.
+pub record Known (desc starts : List ℕ) (node : ℕ) : Type 0 where
+  pub few : node < most_nodes
+  pub begins : get_or starts node 0 ≡ start desc node
+  pub stands : Stands desc node
 
 -- How many nodes stand before a parse ends: all of them, or those before the node at which it stops, which is the one that the refusal gives.
 unfoldable pub standing : Parsed → ℕ

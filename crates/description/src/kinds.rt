@@ -3,7 +3,7 @@ ghost use Rattle.std.specs.Prelude.{◌≡◌};
 ghost use Rattle.description.specs.Bodies.{body_of, byte_of, child_count, is_number_kind, KindOf, RelationOf, OperatorOf};
 ghost use Rattle.description.specs.Kinds.{row_of};
 
-// 01's kinds, 00 to 0C in this order.
+/// 01's kinds, 00 to 0C in this order.
 #[derive(Clone, Copy, PartialEq, Eq, Debug)]
 pub enum Kind {
     Unit,
@@ -21,7 +21,7 @@ pub enum Kind {
     Scan,
 }
 
-// A byte that says no kind.
+/// A byte that says no kind.
 #[derive(Clone, Copy, PartialEq, Eq, Debug)]
 pub struct UnknownKind;
 
@@ -52,7 +52,7 @@ impl TryFrom<u8> for Kind {
 }
 
 impl Kind {
-    // How many bytes the body has.
+    /// How many bytes the body has.
     #[tactic(auto, unfolding(crate::specs::Kinds::row_of, crate::specs::Kinds::kinds, crate::specs::Kinds::unit_row))]
     pub fn bytes(self) -> usize
         ensures { result ≡ (row_of (byte_of self)).bytes }
@@ -67,7 +67,7 @@ impl Kind {
         }
     }
 
-    // How many children the body begins with.
+    /// How many children the body begins with.
     #[tactic(auto, unfolding(crate::specs::Bodies::child_count, crate::specs::Bodies::child_counts))]
     pub fn children(self) -> usize
         ensures { result ≡ child_count (byte_of self) }
@@ -80,7 +80,7 @@ impl Kind {
         }
     }
 
-    // "Number nodes are kinds 02, 03, 08 and 0A".
+    /// "Number nodes are kinds 02, 03, 08 and 0A".
     #[tactic(auto, unfolding(crate::specs::Bodies::is_number_kind))]
     pub fn is_number(self) -> bool
         ensures { result ≡ is_number_kind (byte_of self) }
@@ -92,49 +92,41 @@ impl Kind {
     }
 }
 
-// The body of a kind: how many bytes it has, and how many children it begins with.
+/// The body of a kind: how many bytes it has, and how many children it begins with.
 #[derive(Clone, Copy, PartialEq, Eq, Debug)]
 pub struct Body {
     pub bytes: usize,
     pub children: usize,
 }
 
-// Three functions that answer of any byte, also of one that says no kind, which the methods of `Kind` do not: its body, how many children that begins
-// with, and whether it is of a number node.
-#[tactic(auto, unfolding(crate::specs::Bodies::body_of))]
+/// Three functions that promise an answer of any byte, also of one that says no kind, which the methods of `Kind` do not: its body, how many children
+/// that begins with, and whether it is of a number node. Whoever has a byte alone calls them.
+#[tactic(auto, using(crate::proofs::Bodies::byte_below, crate::proofs::Bodies::body_known), unfolding(crate::specs::Bodies::body_of, crate::specs::Kinds::kinds))]
 pub fn body_of(byte: u8) -> Option<Body>
     ensures { result ≡ body_of byte }
 {
-    match Kind::try_from(byte) {
-        Ok(kind) => Some(Body {
-            bytes: kind.bytes(),
-            children: kind.children(),
-        }),
-        Err(UnknownKind) => None,
-    }
+    let kind = Kind::try_from(byte).ok()?;
+    Some(Body {
+        bytes: kind.bytes(),
+        children: kind.children(),
+    })
 }
 
-#[tactic(auto, unfolding(crate::specs::Bodies::child_count, crate::specs::Bodies::child_counts))]
+#[tactic(auto, using(crate::proofs::Bodies::no_children), unfolding(crate::specs::Kinds::kinds))]
 pub fn children_of(byte: u8) -> usize
     ensures { result ≡ child_count byte }
 {
-    match Kind::try_from(byte) {
-        Ok(kind) => kind.children(),
-        Err(UnknownKind) => 0,
-    }
+    Kind::try_from(byte).map_or(0, |kind| kind.children())
 }
 
-#[tactic(auto, unfolding(crate::specs::Bodies::is_number_kind))]
+#[tactic(auto, unfolding(crate::specs::Bodies::is_number_kind, crate::specs::Kinds::kinds))]
 pub fn is_number(byte: u8) -> bool
     ensures { result ≡ is_number_kind byte }
 {
-    match Kind::try_from(byte) {
-        Ok(kind) => kind.is_number(),
-        Err(UnknownKind) => false,
-    }
+    Kind::try_from(byte).is_ok_and(|kind| kind.is_number())
 }
 
-// "Relations 0 to 5: equal, not equal, less, at most, greater, at least."
+/// "Relations 0 to 5: equal, not equal, less, at most, greater, at least."
 #[derive(Clone, Copy, PartialEq, Eq, Debug)]
 pub enum Relation {
     Equal,
@@ -145,14 +137,14 @@ pub enum Relation {
     AtLeast,
 }
 
-// "Operators: 0 add, 1 subtract."
+/// "Operators: 0 add, 1 subtract."
 #[derive(Clone, Copy, PartialEq, Eq, Debug)]
 pub enum Operator {
     Add,
     Subtract,
 }
 
-// A byte that is not listed: as a relation, or as an operator.
+/// A byte that is not listed: as a relation, or as an operator.
 #[derive(Clone, Copy, PartialEq, Eq, Debug)]
 pub struct NotListed;
 

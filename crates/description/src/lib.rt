@@ -8,54 +8,53 @@ mod names;
 mod nodes;
 pub mod places;
 
-ghost use Rattle.std.specs.Prelude.{◌≡◌, ◌≤◌, ◌<◌, IfOk, length};
-ghost use Rattle.description.specs.Check.{checked};
+ghost use Rattle.std.specs.Prelude.{◌≡◌, ◌<◌, IfOk, length};
+ghost use Rattle.description.specs.Check.{checked, named_by};
 ghost use Rattle.description.specs.Examine.{examined, starts_after, Readable};
-ghost use Rattle.description.specs.Inner.Steps.{judged, Whole};
-ghost use Rattle.description.specs.Limits.{most_bytes};
-ghost use Rattle.description.specs.Places.{nodes_to};
+ghost use Rattle.description.specs.Inner.Names.{Marks};
+ghost use Rattle.description.specs.Inner.Steps.{front, judged};
 
 use places::Nodes;
 
-// "description empty or over 1,024 bytes"
+/// "description empty or over 1,024 bytes"
 pub const MOST_BYTES: usize = 1024;
 
-// "A description holds 1 to 64 nodes."
+/// "A description holds 1 to 64 nodes."
 pub const MOST_NODES: usize = 64;
 
-// "64 nodes allow 31" binds around one node: what a reader has room for.
+/// "64 nodes allow 31" binds around one node: what a reader has room for.
 pub const MOST_BINDS: usize = 31;
 
-// Why a description is refused: the first of document 01's reasons, in its order. A case holds the node that it gives, where 01 does not fix
-// that number. 11 is "not used again".
+/// Why a description is refused: the first of document 01's reasons, in its order. A case holds the node that it gives, where 01 does not fix
+/// that number. 11 is "not used again".
 #[derive(Clone, Copy, PartialEq, Eq, Debug)]
 pub enum Refusal {
-    // 1: description empty or over 1,024 bytes.
+    /// 1: description empty or over 1,024 bytes.
     EmptyOrTooLong,
-    // 2: unknown kind.
+    /// 2: unknown kind.
     UnknownKind(u8),
-    // 3: body cut short.
+    /// 3: body cut short.
     BodyCutShort(u8),
-    // 4: a 65th node begins.
+    /// 4: a 65th node begins.
     TooManyNodes,
-    // 5: width, relation, operator or operand not listed.
+    /// 5: width, relation, operator or operand not listed.
     NotListed(u8),
-    // 6: child not smaller than the node.
+    /// 6: child not smaller than the node.
     ChildNotSmaller(u8),
-    // 7: child named before, also twice in one node.
+    /// 7: child named before, also twice in one node.
     ChildNamedBefore(u8),
-    // 8: a number node is wanted.
+    /// 8: a number node is wanted.
     NumberNodeWanted(u8),
-    // 9: a node never named.
+    /// 9: a node never named.
     NeverNamed(u8),
-    // 10: operand names no enclosing bind.
+    /// 10: operand names no enclosing bind.
     NoEnclosingBind(u8),
 }
 
 impl Refusal {
     ghost use Rattle.description.specs.Refusals.{refusal_number, refusal_node};
 
-    // Its number in 01's table.
+    /// Its number in 01's table.
     pub fn number(self) -> u8
         ensures { result ≡ refusal_number self }
     {
@@ -73,7 +72,7 @@ impl Refusal {
         }
     }
 
-    // The node that is given with it.
+    /// The node that is given with it.
     pub fn node(self) -> u8
         ensures { result ≡ refusal_node self }
     {
@@ -92,7 +91,7 @@ impl Refusal {
     }
 }
 
-// "The check alone".
+/// "The check alone".
 #[tactic(auto, unfolding(crate::specs::Check::checked, crate::specs::Check::verdict, crate::specs::Examine::examined))]
 pub fn check(desc: &[u8]) -> Result<(), Refusal>
     ensures { result ≡ checked desc.now }
@@ -102,8 +101,8 @@ pub fn check(desc: &[u8]) -> Result<(), Refusal>
     Ok(())
 }
 
-// The check as a reader asks for it: how many nodes an accepted description has; where each begins is left in `starts`, which is lent and no part of the
-// result, since what it holds after a refusal is promised too (`starts_after`).
+/// The check as a reader asks for it: how many nodes an accepted description has; where each begins is left in `starts`, which is lent and no part of the
+/// result, since what it holds after a refusal is promised too (`starts_after`).
 pub fn examine(desc: &[u8], starts: &mut [usize; MOST_NODES]) -> Result<usize, Refusal>
     ensures value { result ≡ examined desc.now }
     ensures starts_after { starts.new ≡ starts_after desc.now starts.old }
@@ -114,29 +113,25 @@ pub fn examine(desc: &[u8], starts: &mut [usize; MOST_NODES]) -> Result<usize, R
     }
     let mut named = [false; MOST_NODES];
     let n = nodes::parse(desc, starts, &mut named)?;
-    whole(desc, starts, &named, n)
-}
-
-// 9 and 10, for n nodes that were parsed. They become a `Nodes` here, after 9, since the flags are asked first.
-fn whole(
-    desc: &[u8],
-    starts: &[usize],
-    named: &[bool; MOST_NODES],
-    n: usize,
-) -> Result<usize, Refusal>
-    requires { (length desc.now ≤ most_bytes) × (0 < n) × Whole desc.now starts.now named.now n }
-    ensures { result ≡ judged (nodes_to desc.now n) }
-{
-    let root = n - 1;
-    if let Some(i) = names::lowest_unnamed(named, root) {
-        return Err(Refusal::NeverNamed(i as u8));
-    }
     let nodes = Nodes {
         desc,
-        starts,
-        count: n,
+        starts: &starts[..n],
     };
-    if 0 < binds::needs(&nodes, root) {
+    whole(&nodes, &named)
+}
+
+// 9 and 10, for all nodes of a description: how many there are.
+fn whole(nodes: &Nodes, named: &[bool; MOST_NODES]) -> Result<usize, Refusal>
+    requires some_node { 0 < length nodes.now.starts.now }
+    requires marks { Marks named.now (named_by (front nodes.now)) }
+    ensures { result ≡ judged (front nodes.now) }
+{
+    let n = nodes.starts.len();
+    let root = n - 1;
+    if let Some(i) = names::lowest_unnamed(&named[..root]) {
+        return Err(Refusal::NeverNamed(i as u8));
+    }
+    if 0 < binds::needs(nodes, root) {
         return Err(Refusal::NoEnclosingBind(root as u8));
     }
     Ok(n)

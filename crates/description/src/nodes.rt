@@ -7,15 +7,15 @@ ghost use Rattle.description.specs.Limits.{most_bytes, most_nodes};
 ghost use Rattle.description.specs.Inner.Children.{number_children};
 ghost use Rattle.description.specs.Inner.Names.{Marks};
 ghost use Rattle.description.specs.Nodes.{children};
-ghost use Rattle.description.specs.Places.{nodes_to, placed_starts};
-ghost use Rattle.description.specs.Inner.Steps.{Whole, counted, step_of};
+ghost use Rattle.description.specs.Places.{placed_starts};
+ghost use Rattle.description.specs.Inner.Steps.{Whole, counted, front, step_of};
 
 use crate::kinds::Kind;
 use crate::places::Nodes;
 use crate::{MOST_NODES, Refusal, fields, names};
 
-// "node by node from the front": how many nodes there are, where they begin, and which are named. `starts` is lent since what it holds after a refusal
-// is promised (`starts_after` of `examine`), and `named` with it, as 64 flags are not to be copied.
+/// "node by node from the front": how many nodes there are, where they begin, and which are named. `starts` is lent since what it holds after a refusal
+/// is promised (`starts_after` of `examine`), and `named` with it, as 64 flags are not to be copied.
 pub fn parse(
     desc: &[u8],
     starts: &mut [usize; MOST_NODES],
@@ -35,8 +35,7 @@ pub fn parse(
         }
         let before = Nodes {
             desc,
-            starts,
-            count: n,
+            starts: &starts[..n],
         };
         let end = node(&before, at, named)?;
         starts[n] = at;
@@ -48,13 +47,13 @@ pub fn parse(
 
 // "2, 3, 5, 6, 7, 8", for the node that begins at byte at: where the next begins, or its refusal; its children are named.
 fn node(before: &Nodes, at: usize, named: &mut [bool; MOST_NODES]) -> Result<usize, Refusal>
-    requires within { (at < length before.now.desc.now) × (length before.now.desc.now ≤ most_bytes) × (before.now.count < most_nodes) }
-    requires marks { Marks named.old (named_by (nodes_to before.now.desc.now before.now.count)) }
-    ensures value { result ≡ step_of (node_refusal before.now.desc.now (nodes_to before.now.desc.now before.now.count) at) (node_end before.now.desc.now at) }
-    ensures marked { node_refusal before.now.desc.now (nodes_to before.now.desc.now before.now.count) at ≡ none
-        → Marks named.new (named_by (nodes_to before.now.desc.now before.now.count) ++ children (node_at before.now.desc.now at)) }
+    requires within { (at < length before.now.desc.now) × (length before.now.starts.now < most_nodes) }
+    requires marks { Marks named.old (named_by (front before.now)) }
+    ensures value { result ≡ step_of (node_refusal before.now.desc.now (front before.now) at) (node_end before.now.desc.now at) }
+    ensures marked { node_refusal before.now.desc.now (front before.now) at ≡ none
+        → Marks named.new (named_by (front before.now) ++ children (node_at before.now.desc.now at)) }
 {
-    let n = before.count as u8;
+    let n = before.starts.len() as u8;
     let Ok(kind) = Kind::try_from(before.desc[at]) else {
         return Err(Refusal::UnknownKind(n));
     };
@@ -62,14 +61,14 @@ fn node(before: &Nodes, at: usize, named: &mut [bool; MOST_NODES]) -> Result<usi
     let Some(body) = before.desc.get(at + 1..end) else {
         return Err(Refusal::BodyCutShort(n));
     };
-    if !fields::listed(kind, body) {
+    if !fields::is_listed(kind, body) {
         return Err(Refusal::NotListed(n));
     }
     let children = &body[..kind.children()];
-    if names::some_not_smaller(children, before.count) {
+    if names::some_not_smaller(children, before.starts.len()) {
         return Err(Refusal::ChildNotSmaller(n));
     }
-    if names::some_named_before(children, named) {
+    if names::name_all(children, named).is_err() {
         return Err(Refusal::ChildNamedBefore(n));
     }
     if some_no_number(before, kind, children) {
@@ -81,8 +80,8 @@ fn node(before: &Nodes, at: usize, named: &mut [bool; MOST_NODES]) -> Result<usi
 // "the first child of bind and the child of where must be number nodes": whether one that must be is none.
 fn some_no_number(before: &Nodes, kind: Kind, children: &[u8]) -> bool
     requires count { length children.now ≡ child_count (byte_of kind) }
-    requires smaller { some_not_smaller before.now.count children.now ≡ false }
-    ensures { result ≡ some_no_number (nodes_to before.now.desc.now before.now.count) (number_children (byte_of kind) children.now) }
+    requires smaller { some_not_smaller (length before.now.starts.now) children.now ≡ false }
+    ensures { result ≡ some_no_number (front before.now) (number_children (byte_of kind) children.now) }
 {
     matches!(kind, Kind::Bind | Kind::Where) && !before.kind_of(children[0] as usize).is_number()
 }

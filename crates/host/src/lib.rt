@@ -9,7 +9,7 @@ ghost use Rattle.host.specs.Answer.{answer, Got, Wrote};
 
 use reader::{Refused, Success};
 
-// The check of a description: the refusal plus 256 times the node, 0 where it accepts.
+/// The check of a description: the refusal plus 256 times the node, 0 where it accepts.
 #[tactic(auto, unfolding(crate::specs::Answer::answer))]
 #[unsafe(no_mangle)]
 pub extern "C" fn rippleshrug_check_slice(desc: &[u8]) -> u32
@@ -21,7 +21,7 @@ pub extern "C" fn rippleshrug_check_slice(desc: &[u8]) -> u32
     }
 }
 
-// "refusal 0, node 0, count and end", or a refusal's: the four numbers of a call, laid out as C lays out a struct.
+/// "refusal 0, node 0, count and end", or a refusal's: the four numbers of a call, laid out as C lays out a struct.
 #[repr(C)]
 #[derive(Clone, Copy, PartialEq, Eq, Debug)]
 pub struct Numbers {
@@ -57,7 +57,8 @@ impl From<Result<Success, Refused>> for Numbers {
     }
 }
 
-// A call of the reader: its four numbers, and both tables, whatever stood in them.
+/// A call of the reader: its four numbers, and both tables, whatever stood in them.
+#[tactic(auto, unfolding(reader::specs::Answers::given, reader::specs::Answers::stated_by))]
 #[unsafe(no_mangle)]
 pub extern "C" fn rippleshrug_read_slices(
     desc: &[u8],
@@ -71,7 +72,7 @@ pub extern "C" fn rippleshrug_read_slices(
     reader::read(desc, input, values, descriptors).into()
 }
 
-// "the number of bits without the padding", or a refusal: the three numbers of a call of the writer, laid out as C lays out a struct.
+/// "the number of bits without the padding", or a refusal: the three numbers of a call of the writer, laid out as C lays out a struct.
 #[repr(C)]
 #[derive(Clone, Copy, PartialEq, Eq, Debug)]
 pub struct Bits {
@@ -105,7 +106,8 @@ impl From<Result<u32, writing::Refused>> for Bits {
     }
 }
 
-// A call of the writer: its three numbers, and every byte of the buffer, whatever stood in it.
+/// A call of the writer: its three numbers, and every byte of the buffer, whatever stood in it. The count stands beside the table, as in C's header.
+#[tactic(auto, unfolding(writing::specs::Outcome::given))]
 #[unsafe(no_mangle)]
 pub extern "C" fn rippleshrug_write_slices(
     desc: &[u8],

@@ -8,7 +8,7 @@ ghost use Rattle.writing.specs.Outcome as writing;
 
 use host::{Bits, Numbers};
 
-// The check of a description: the refusal plus 256 times the node, 0 where it accepts.
+/// The check of a description: the refusal plus 256 times the node, 0 where it accepts.
 #[unsafe(no_mangle)]
 pub extern "C" fn rippleshrug_check_slice(desc: &[u8]) -> u32
     ensures { result ≡ answer desc.now }
@@ -16,7 +16,7 @@ pub extern "C" fn rippleshrug_check_slice(desc: &[u8]) -> u32
     host::rippleshrug_check_slice(desc)
 }
 
-// A call of the reader: its four numbers, and both tables, whatever stood in them.
+/// A call of the reader: its four numbers, and both tables, whatever stood in them.
 #[unsafe(no_mangle)]
 pub extern "C" fn rippleshrug_read_slices(
     desc: &[u8],
@@ -30,7 +30,7 @@ pub extern "C" fn rippleshrug_read_slices(
     host::rippleshrug_read_slices(desc, input, values, descriptors)
 }
 
-// A call of the writer: its three numbers, and every byte of the buffer, whatever stood in it.
+/// A call of the writer: its three numbers, and every byte of the buffer, whatever stood in it.
 #[unsafe(no_mangle)]
 pub extern "C" fn rippleshrug_write_slices(
     desc: &[u8],

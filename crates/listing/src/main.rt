@@ -4,10 +4,10 @@
 
 ghost use Rattle.std.specs.Counts.{IsPrefixLen};
 
-use std::io;
-use std::io::Read;
+use std::io::{self, Read};
 use text::{MOST_GIVEN, MOST_TEXT};
 
+// It answers no error: where a read or a write fails its exit status is 0 all the same, as README.md promises (docs/DECISIONS.md, "What cannot be had").
 fn main(rt: HostRuntime) {
     let mut given = [0u8; MOST_GIVEN];
     let n = fill(&rt, &mut rt.stdin(), &mut given);
@@ -24,6 +24,7 @@ fn fill(rt: &impl Eprint, input: &mut impl Read, given: &mut [u8]) -> usize
     ensures { IsPrefixLen result given.new }
 {
     let mut n = 0;
+    // No `for`: how much a read gives, and so how many there are, is known only afterwards.
     while n < given.len() {
         match input.read(&mut given[n..]) {
             Ok(0) => break,

@@ -1,5 +1,5 @@
 // Whole numbers and their words: the low 32 bits, relations, and what a compute gives.
-ghost use Rattle.std.specs.Prelude.{◌≡◌, ◌%◌, ◌^◌, ◌≤◌, pos};
+ghost use Rattle.std.specs.Prelude.{◌≡◌, ◌≤◌, pos};
 ghost use Rattle.bits.specs.Whole.{modulo, word};
 ghost use Rattle.description.specs.Bodies.{relation_meant, operator_meant};
 ghost use Rattle.rules.specs.Numbers.{holds, result as result_of};
@@ -7,17 +7,17 @@ ghost use Rattle.rules.specs.Numbers.{holds, result as result_of};
 use description::kinds::{Operator, Relation};
 
 // 2 to the power 32.
-const WORDS: i64 = 1 << 32;
+const TWO_TO_32: i64 = 1 << 32;
 
-// "number (low 32 bits)"
+/// "number (low 32 bits)"
 #[tactic(auto, unfolding(bits::specs::Whole::word, bits::specs::Whole::modulo))]
 pub fn word_of(z: i64) -> u32
     ensures { result ≡ word z }
 {
-    z.rem_euclid(WORDS) as u32
+    z.rem_euclid(TWO_TO_32) as u32
 }
 
-// "equal, not equal, less, at most, greater, at least"
+/// "equal, not equal, less, at most, greater, at least"
 #[tactic(auto, using(crate::proofs::Signs::same_bits), unfolding(rules::specs::Numbers::holds))]
 pub fn in_relation(relation: Relation, a: i64, b: i64) -> bool
     ensures { result ≡ holds (relation_meant relation) a b }
@@ -32,7 +32,7 @@ pub fn in_relation(relation: Relation, a: i64, b: i64) -> bool
     }
 }
 
-// "a + b or a - b, kept modulo 2 to the power w"
+/// "a + b or a - b, kept modulo 2 to the power w"
 pub fn computed(w: u8, operator: Operator, a: i64, b: i64) -> i64
     requires { w ≤ 32 }
     ensures { result ≡ pos (modulo w (result_of (operator_meant operator) a b)) }
@@ -43,13 +43,5 @@ pub fn computed(w: u8, operator: Operator, a: i64, b: i64) -> i64
         Operator::Add => x.wrapping_add(y),
         Operator::Subtract => x.wrapping_sub(y),
     };
-    remainder(all, w)
-}
-
-// The remainder by 2 to the power w.
-fn remainder(n: u32, w: u8) -> i64
-    requires { w ≤ 32 }
-    ensures { result ≡ pos (n % 2 ^ w) }
-{
-    (u64::from(n) % (1 << w)) as i64
+    (u64::from(all) % (1 << w)) as i64
 }

@@ -10,15 +10,15 @@ use crate::readings::At;
 use description::places::Operand;
 
 impl Reader<'_, '_> {
-    // The operand at byte j of a node's body: a constant, or a number lent.
+    /// The operand at byte j of a node's body: a constant, or a number lent.
     pub fn value_of(&self, lent: &[i64], at: At, j: usize) -> i64
-        requires operand { (at.node < self.now.nodes.count) × (j + 5 ≤ (row_of (kind_of self.now.nodes.desc.now at.node)).bytes) }
+        requires operand { (at.node < length self.now.nodes.starts.now) × (j + 5 ≤ (row_of (kind_of self.now.nodes.desc.now at.node)).bytes) }
         requires free_in_bounds { needs_of (operand_of self.now.nodes.desc.now at.node j) + at.free ≤ length lent.now }
         ensures { result ≡ value_of (drop at.free lent.now) (operand_of self.now.nodes.desc.now at.node j) }
     {
         match self.nodes.operand_of(at.node, j) {
             Operand::Constant(z) => z,
-            Operand::Bound(k) => lent[at.free + k],
+            Operand::Bound(k) => lent[at.free + k as usize],
         }
     }
 }

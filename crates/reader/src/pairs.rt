@@ -6,7 +6,7 @@ ghost use Rattle.reader.specs.Inner.Pairs.{second_at, Lent};
 use crate::readings::FAIL;
 use description::kinds::Kind;
 
-// "both: both at o"; then and bind: "second at the first's end".
+/// "both: both at o"; then and bind: "second at the first's end".
 pub fn second_at(kind: Kind, o: u32, end: u32) -> u32
     ensures { result ≡ second_at (byte_of kind) o end }
 {
@@ -16,8 +16,8 @@ pub fn second_at(kind: Kind, o: u32, end: u32) -> u32
     }
 }
 
-// "Bind lends the second the first's number ..., 0 after code fail." It stands in front of those lent before, in the last place that is free.
-// How many places are then free.
+/// "Bind lends the second the first's number ..., 0 after code fail." It stands in front of those lent before, in the last place that is free.
+/// How many places are then free.
 pub fn lend(lent: &mut [i64], free: usize, kind: Kind, code: u32, number: i64) -> usize
     requires { (free ≤ length lent.old) × (byte_of kind ≡ byte_of Kind.Bind → 0 < free) }
     ensures { Lent (byte_of kind) code number free lent.old lent.new result }

@@ -4,16 +4,12 @@ use mathlib.Core.List.{List, []}
 use mathlib.Core.Path.{◌≡◌}
 use lib.IntN.{ℤ, pos}
 use native.Mathlib.Omega.{arith}
-use borrow.Author.Tests.{le-leb, lt-leb}
+use borrow.Author.Tests.{lt-leb}
 use Rattle.bits.specs.Bits.{total}
-use Rattle.rules.specs.Entries.{reading, ok, fail}
+use Rattle.rules.specs.Entries.{reading, fail}
 use Rattle.rules.specs.Reading.{read_bits}
 
 module _ (input : List ℕ) (n o w : ℕ) (z : ℤ) where
-  pub bits_there : o + w ≤ total input → read_bits input n o w z ≡ reading n o (o + w) 0 ok z 0 []
-  unfolding read_bits
-  bits_there h = rw (le-leb (o + w) (total input) h, read_bits)
-
   pub bits_missing : total input < o + w → read_bits input n o w z ≡ reading n o o 1 fail (pos 0) (o + w - total input) []
   unfolding read_bits
   bits_missing h = rw (lt-leb (o + w) (total input) h, read_bits)

@@ -30,7 +30,7 @@ case-A :
     Fits turned (bind 4 (bits 0 16) (bind 3 (bits 1 16) (compute 2 16 subtract (bound 0) (bound 1)))) []
     (entry 4 0 32 0 0 0 0 5)
     (entry 0 0 16 0 0 65530 0 1 ∷ entry 3 16 32 0 0 0 0 3 ∷ entry 1 16 32 0 0 4 0 1 ∷ entry 2 32 32 0 0 10 0 1 ∷ [])
-unfolding Fits turned entry total number bit recorded is_signed modulo result value_of
+unfolding Fits turned total number bit recorded is_signed modulo result value_of
 case-A = (
   record { node = refl; size = refl },
   record {
@@ -59,12 +59,12 @@ case-A = (
 
 -- any tree and any entries beneath: 8 bits skipped are 8 too many
 skipped : (child : Tree) (beneath : List Entry) → Fits (0x00 ∷ 0x2a ∷ []) (scan 2 child) [] (entry 2 0 16 1 1 0 8 3) beneath → ⊥
-unfolding Fits entry
+unfolding Fits
 skipped child beneath fits = let detail : ◌≡◌ {A = ℕ} 8 0 = fits.1 in omega arith
 
 -- 5 bits are there and a second 5 are not: read with 1 error; one element over those 5 bits fits
 pub absorbed : Fits (0x00 ∷ []) (absorb 4 (sequence 3 (bits 0 5) (unit 1) (bottom 2) (constant (negsuc 0)))) [] (entry 4 0 5 1 1 0 0 1) []
-unfolding Fits entry total number bit
+unfolding Fits total number bit
 absorbed = (
   leaf 4 _ refl refl,
   (

@@ -3,7 +3,7 @@ use Rattle.std.proofs.Common.{◌≡◌, ℕ, List, [], ◌∷◌, ◌++◌, ref
 use Rattle.std.specs.Prelude.{codes}
 use Rattle.rules.proofs.Evaluate.{evaluated}
 use Rattle.text.specs.Lines.{digits, decimal}
-use Rattle.text.specs.Listing.{entry_line, entry_lines, refusal_line, printed, table_words, printed_outcome, listed, listing}
+use Rattle.text.specs.Listing.{entry_line, entry_lines, printed, listed, listing}
 
 -- Case A: "00 17" and 23 bytes of description, then FF FA 00 04.
 case_a : List ℕ
@@ -21,7 +21,7 @@ lines_a =
     ++ codes "2 32 32 0 0 10 0 1\n"
 
 whole : listing case_a ≡ lines_a
-unfolding evaluated digits decimal entry_line entry_lines refusal_line printed table_words printed_outcome listed listing case_a lines_a
+unfolding evaluated digits decimal entry_line entry_lines printed listed listing case_a lines_a
 whole = refl
 
 -- 1,025 and 0 bytes are stated; one byte in all; two bytes of a description of three

@@ -7,7 +7,7 @@ use Rattle.std.proofs.Math.Seq.{sets, length-sets, set_out, length-take-le}
 use Rattle.std.specs.List.{flat_map}
 use Rattle.text.specs.declared.lines.Text.{Text}
 use Rattle.text.specs.Inner.Puts.{Puts}
-use Rattle.text.specs.Lines.{decimal, following}
+use Rattle.text.specs.Lines.{spaced, following}
 use Rattle.text.specs.Put.{Put}
 
 module _ {A : Type 0} where
@@ -37,43 +37,28 @@ put_both {before = before} {middle = middle} {x = x} {y = y} {at = at} {next = n
       next-is = omega (arith, p.next-is, q.next-is, length-append x y);
     }
 
-pub puts_nothing : (t : Text) → Puts t t [] 0
-puts_nothing t = record {
-  same_buffer = refl;
-  put = record { text_is = refl; next-is = omega arith };
-  short = omega arith;
-}
-
-pub puts_both : {old middle new : Text} {x y : List ℕ} {m n : ℕ} → Puts old middle x m → Puts middle new y n → Puts old new (x ++ y) (m + n)
-puts_both {x = x} {y = y} p q = record {
+-- the two together, said otherwise where that is wanted, and with any larger bound
+pub puts_both : {old middle new : Text} {x y said : List ℕ} {m n most : ℕ} → Puts old middle x m → Puts middle new y n
+    → said ≡ x ++ y → m + n ≤ most → Puts old new said most
+puts_both {x = x} {y = y} p q e h = record {
   same_buffer = q.same_buffer ∙ p.same_buffer;
-  put = put_both p.put q.put;
-  short = omega (arith, p.short, q.short, length-append x y);
-}
-
--- what is put may be said otherwise, and more is allowed
-pub puts_as : {old new : Text} {x said : List ℕ} {most more : ℕ} → Puts old new x most → said ≡ x → most ≤ more → Puts old new said more
-puts_as p e h = record {
-  same_buffer = p.same_buffer;
-  put = rw e p.put;
-  short = rw e (omega (arith, p.short, h));
+  put = rw e (put_both p.put q.put);
+  short = rw e (omega (arith, p.short, q.short, length-append x y, h));
 }
 
 -- where a text ends: inside the buffer, and where it has room, after all of it
 module _ {before new after : List ℕ} {next : ℕ} (p : Put before 0 new after next) where
-  pub put_counts : (next ≤ length after) × (next ≡ length (take next after))
-  put_counts =
-      let inside : next ≤ length after = omega (arith, p.next-is, put-length p) in
-      (inside, sym (length-take-le next after inside))
+  pub put_inside : next ≤ length after
+  put_inside = omega (arith, p.next-is, put-length p)
 
-  pub put-ends : length new ≤ length before → next ≡ length new
-  put-ends room = omega (arith, p.next-is, room)
+  pub put_counts : next ≡ length (take next after)
+  put_counts = sym (length-take-le next after put_inside)
+
+  pub put_ends : length new ≤ length before → next ≡ length new
+  put_ends room = omega (arith, p.next-is, room)
 
 -- numbers after single spaces: one more, and the line feed after all of them
-abbrev spaced : ℕ → List ℕ
-spaced n = 32 ∷ decimal n
-
-pub spaced-more : (ns : List ℕ) (i : ℕ) → i < length ns → flat_map spaced (take (i + 1) ns) ≡ flat_map spaced (take i ns) ++ ((32 ∷ []) ++ decimal (get_or ns i 0))
+pub spaced-more : (ns : List ℕ) (i : ℕ) → i < length ns → flat_map spaced (take (i + 1) ns) ≡ flat_map spaced (take i ns) ++ spaced (get_or ns i 0)
 spaced-more ns i h = rw (take_more ns i 0 h) (sym (flat_map_more spaced [] (take i ns) (get_or ns i 0)))
 
 pub spaced_all : (ns : List ℕ) (i : ℕ) → length ns ≤ i → following ns ≡ flat_map spaced (take i ns) ++ (10 ∷ [])

@@ -11,6 +11,10 @@ digits (suc more) n = elim (ltb n 10) [ true ↦ (48 + n) ∷ [] | false ↦ dig
 unfoldable pub decimal : ℕ → List ℕ
 decimal n = digits (suc n) n
 
+-- A number after a single space.
+abbrev pub spaced : ℕ → List ℕ
+spaced n = codes " " ++ decimal n
+
 -- The numbers that follow on a line, each after a single space; then the line feed.
 abbrev pub following : List ℕ → List ℕ
-following ns = flat_map (λ n. codes " " ++ decimal n) ns ++ codes "\n"
+following ns = flat_map spaced ns ++ codes "\n"

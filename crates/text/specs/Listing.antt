@@ -12,7 +12,7 @@ ok_line count end = codes "ok" ++ following (count ∷ end ∷ [])
 abbrev pub refused_line : (number node : ℕ) → List ℕ
 refused_line number node = codes "refused" ++ following (number ∷ node ∷ [])
 
-unfoldable pub refusal_line : Answer → List ℕ
+abbrev pub refusal_line : Answer → List ℕ
 refusal_line a = refused_line (stated a).refusal (stated a).node
 
 -- "short input"
@@ -51,10 +51,10 @@ module _ (values descriptors : List ℕ) where
   printed no_room = refusal_line no_room
 
 -- "Its tables have room for 1,024 entries"
-unfoldable pub table_words : ℕ
+abbrev pub table_words : ℕ
 table_words = 4 * 1024
 
-unfoldable pub printed_outcome : Outcome → List ℕ
+abbrev pub printed_outcome : Outcome → List ℕ
 printed_outcome o = printed o.values o.descriptors o.answer
 
 -- What follows a stated length n. "A stated length of 0 or above 1,024 prints "refused 1 0"; otherwise, bytes that stop before the

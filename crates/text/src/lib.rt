@@ -15,19 +15,21 @@ ghost use Rattle.text.specs.Put.{Put};
 
 use description::{MOST_BYTES, Refusal};
 use lines::{Tables, Text};
-use reader::{Refused, Success};
+use reader::{DESCRIPTOR_WORDS, MOST_INPUT, Refused, Success, VALUE_WORDS};
 
-// "Its tables have room for 1,024 entries": four words each, in either table.
-const TABLE_WORDS: usize = 4 * 1024;
+// "Its tables have room for 1,024 entries".
+const ENTRIES: usize = 1024;
 
-// No listing is longer: a first line of 30 bytes, and 1,024 entries of eight numbers, each with ten digits and what follows it.
-pub const MOST_TEXT: usize = 30 + 88 * 1024;
+/// No listing is longer: a first line of 30 bytes, and for each entry eight numbers, each with ten digits and what follows it.
+pub const MOST_TEXT: usize = 30 + 88 * ENTRIES;
 
-// No more of standard input is needed: two bytes of length, 1,024 of description, and 8,192 of input, which are refused
-// (`proofs/Enough.antt`).
-pub const MOST_GIVEN: usize = 2 + MOST_BYTES + 8192;
+/// No more of standard input is needed: two bytes of length, 1,024 of description, and of input one byte more than is read, which is refused
+/// (`proofs/Enough.antt`).
+pub const MOST_GIVEN: usize = 2 + MOST_BYTES + MOST_INPUT + 1;
 
-// What is printed for what standard input holds. All of it has room.
+/// What is printed for what standard input holds, and how long it is. All of it has room.
+/// Not the printed part itself: what is promised is of the whole buffer (`text_after`, and `put` of `call`), and a part that is answered would keep it lent.
+#[tactic(auto, using(crate::proofs::Putting::put_counts, crate::proofs::Putting::put_ends, crate::proofs::Putting::put_inside))]
 pub fn list(given: &[u8], text: &mut [u8; MOST_TEXT]) -> usize
     ensures text_after { text.new ≡ sets text.old 0 (listing given.now) }
     ensures value { result ≡ length (listing given.now) }
@@ -41,6 +43,7 @@ pub fn list(given: &[u8], text: &mut [u8; MOST_TEXT]) -> usize
     out.next
 }
 
+#[tactic(auto, unfolding(crate::specs::Listing::listing))]
 fn list_into(given: &[u8], text: &mut Text)
     ensures { Puts text.old text.new (listing given.now) most_text }
 {
@@ -51,13 +54,13 @@ fn list_into(given: &[u8], text: &mut Text)
 }
 
 // What follows a stated length n.
+#[tactic(auto, unfolding(reader::specs::Answers::said, rules::specs::Outcome::stated, description::specs::Limits::most_bytes, crate::specs::Listing::listed))]
 fn listed(n: u16, bytes: &[u8], text: &mut Text)
     ensures { Puts text.old text.new (listed_text n bytes.now) most_text }
 {
     let n = usize::from(n);
     if n == 0 || MOST_BYTES < n {
-        let refusal = Refusal::EmptyOrTooLong;
-        return text.refused(refusal.number().into(), refusal.node().into());
+        return text.refused(Refusal::EmptyOrTooLong.into());
     }
     let Some((desc, input)) = bytes.split_at_checked(n) else {
         return text.short_input();
@@ -66,6 +69,7 @@ fn listed(n: u16, bytes: &[u8], text: &mut Text)
 }
 
 // A description and an input, read into tables of the listing's own.
+#[tactic(auto, using(crate::proofs::Printed::few_entries), unfolding(reader::specs::Answers::given, reader::specs::Answers::stated_by))]
 fn read(desc: &[u8], input: &[u8], text: &mut Text)
     ensures { Puts
         text.old
@@ -73,8 +77,8 @@ fn read(desc: &[u8], input: &[u8], text: &mut Text)
         (printed_outcome (outcome table_words table_words desc.now input.now))
         most_text }
 {
-    let mut values = [0u32; TABLE_WORDS];
-    let mut descriptors = [0u32; TABLE_WORDS];
+    let mut values = [0u32; VALUE_WORDS * ENTRIES];
+    let mut descriptors = [0u32; DESCRIPTOR_WORDS * ENTRIES];
     let answer = reader::read(desc, input, &mut values, &mut descriptors);
     let tables = Tables {
         values: &values,
@@ -83,7 +87,7 @@ fn read(desc: &[u8], input: &[u8], text: &mut Text)
     answered(answer, &tables, text);
 }
 
-// What is printed of a call of the reader: its answer, and both tables afterwards.
+/// What is printed of a call of the reader, its answer and both tables afterwards, and where it ends in the buffer.
 pub fn call(
     answer: Result<Success, Refused>,
     values: &[u32],
@@ -106,7 +110,7 @@ pub fn call(
     out.next
 }
 
-#[tactic(auto, unfolding(reader::specs::Answers::said, reader::specs::Answers::stated_by, rules::specs::Outcome::stated, crate::specs::Listing::printed, crate::specs::Listing::refusal_line))]
+#[tactic(auto, unfolding(reader::specs::Answers::said, crate::specs::Listing::printed))]
 fn answered(answer: Result<Success, Refused>, tables: &Tables, text: &mut Text)
     ensures { Puts
         text.old
@@ -119,6 +123,6 @@ fn answered(answer: Result<Success, Refused>, tables: &Tables, text: &mut Text)
             text.ok(count, end);
             text.entries(tables, count);
         }
-        Err(refused) => text.refused(refused.number().into(), refused.node().into()),
+        Err(refused) => text.refused(refused),
     }
 }

@@ -1,21 +1,24 @@
 // The lines of the listing, put into a buffer that is lent; what has no room is left out. What is said of how much each of them puts at most is how
 // large a buffer has to be.
-ghost use Rattle.std.specs.Prelude.{◌≡◌, ◌+◌, ◌*◌, [], ◌∷◌, length};
+ghost use Rattle.std.specs.Prelude.{◌≡◌, ◌+◌, ◌*◌, ◌≤◌, ◌++◌, [], ◌∷◌, length, slice_index_or};
+ghost use Rattle.reader.specs.Answers.{said};
 ghost use Rattle.text.specs.Lines.{decimal, following as following_numbers};
-ghost use Rattle.text.specs.Listing.{ok_line, refused_line, entry_word, entry_line, entry_lines};
+ghost use Rattle.text.specs.Listing.{ok_line, refusal_line, entry_line, entry_lines};
 ghost use Rattle.text.specs.Listing.{short_input as short_input_line};
 ghost use Rattle.text.specs.Inner.Puts.{Puts};
 
 use itoa::Buffer;
+use reader::{DESCRIPTOR_WORDS, Refused, VALUE_WORDS};
+use std::array::from_fn;
 
-// A buffer, and the place in it where the next byte goes.
+/// A buffer, and the place in it where the next byte goes.
 #[derive(Drop)]
 pub struct Text<'a> {
     pub bytes: &'a mut [u8],
     pub next: usize,
 }
 
-// Both tables after a call.
+/// Both tables after a call, to be read. Not the reader's own `Tables`, in which it writes: a struct is of slices that are lent to be written, or of others.
 #[derive(Clone, Copy)]
 pub struct Tables<'a> {
     pub values: &'a [u32],
@@ -42,6 +45,7 @@ impl Text<'_> {
     }
 
     // Not by `write!`, which promises what it wrote only where it answers `Ok`, and never that it does.
+    #[tactic(auto, using(crate::proofs::Decimals::decimal_is))]
     fn number(&mut self, n: u32)
         ensures { Puts self.old self.new (decimal n) 10 }
     {
@@ -59,20 +63,31 @@ impl Text<'_> {
         self.byte(b'\n');
     }
 
-    // "ok", count and end
+    // What a listing begins with: a word of seven letters at most, and two numbers.
+    fn first_line(&mut self, word: &[u8], numbers: &[u32; 2])
+        requires { length word.now ≤ 7 }
+        ensures { Puts self.old self.new (word.now ++ following_numbers numbers.now) 30 }
+    {
+        self.word(word);
+        self.following(numbers);
+    }
+
+    /// "ok", count and end
     pub fn ok(&mut self, count: u32, end: u32)
         ensures { Puts self.old self.new (ok_line count end) 30 }
     {
-        self.word(b"ok");
-        self.following(&[count, end]);
+        self.first_line(b"ok", &[count, end]);
     }
 
-    // "refused", number, node
-    pub fn refused(&mut self, number: u32, node: u32)
-        ensures { Puts self.old self.new (refused_line number node) 30 }
+    /// "refused", number, node
+    #[tactic(auto, unfolding(reader::specs::Answers::stated_by))]
+    pub fn refused(&mut self, refused: Refused)
+        ensures { Puts self.old self.new (refusal_line (said (Err refused))) 30 }
     {
-        self.word(b"refused");
-        self.following(&[number, node]);
+        self.first_line(
+            b"refused",
+            &[refused.number().into(), refused.node().into()],
+        );
     }
 
     pub fn short_input(&mut self)
@@ -85,13 +100,16 @@ impl Text<'_> {
     fn entry(&mut self, tables: &Tables, i: u32)
         ensures { Puts self.old self.new (entry_line tables.now.values.now tables.now.descriptors.now i) 88 }
     {
-        let [node, number, detail, size] = words(tables.values, i);
-        let [begin, end, code, errors] = words(tables.descriptors, i);
+        let value = |k| word_at(tables.values, VALUE_WORDS * i as usize + k);
+        let descriptor = |k| word_at(tables.descriptors, DESCRIPTOR_WORDS * i as usize + k);
+        let [node, number, detail, size]: [u32; VALUE_WORDS] = from_fn(value);
+        let [begin, end, code, errors]: [u32; DESCRIPTOR_WORDS] = from_fn(descriptor);
         self.number(node);
         self.following(&[begin, end, code, errors, number, detail, size]);
     }
 
-    // "a line for each entry"
+    /// "a line for each entry"
+    #[tactic(auto, unfolding(crate::specs::Listing::entry_lines))]
     pub fn entries(&mut self, tables: &Tables, count: u32)
         ensures { Puts self.old self.new (entry_lines tables.now.values.now tables.now.descriptors.now count) (88 * count) }
     {
@@ -101,11 +119,9 @@ impl Text<'_> {
     }
 }
 
-// The four words of the entry at index i, of either table. Past the table's end there is 0.
-fn words(table: &[u32], i: u32) -> [u32; 4]
-    ensures { result
-        ≡ entry_word table.now i 0 ∷ entry_word table.now i 1 ∷ entry_word table.now i 2
-        ∷ entry_word table.now i 3 ∷ [] }
+// Word n of a table, and 0 past the table's end. The index stays beside the table: an entry past the end has no part of it to be handed on.
+fn word_at(table: &[u32], n: usize) -> u32
+    ensures { result ≡ slice_index_or table.now n 0 }
 {
-    std::array::from_fn(|k| table.get(4 * i as usize + k).copied().unwrap_or(0))
+    table.get(n).copied().unwrap_or(0)
 }

@@ -1,7 +1,7 @@
 -- What a whole call is, by what its functions found.
-use Rattle.std.proofs.Common.{◌≡◌, ℕ, ◌-◌, ◌<◌, ◌≤◌, true, false, List, Ok, map, sym, ap, ◌∙◌, arith}
-use Rattle.description.specs.Examine.{examined, Readable}
-use Rattle.description.specs.Limits.{most_nodes}
+use Rattle.std.proofs.Common.{◌≡◌, ℕ, ◌<◌, ◌≤◌, true, false, List, Ok, map, sym, ap, ◌∙◌}
+use Rattle.std.specs.Simd.{first_chunks}
+use Rattle.description.specs.Examine.{examined, Rooted}
 use Rattle.writing.specs.Entries.{holds}
 use Rattle.writing.specs.Fields.{field_of, fields_of, some_unwritable}
 use Rattle.writing.specs.Outcome.{refusing, outcome}
@@ -11,13 +11,10 @@ use Rattle.writing.proofs.Nodes.{nodes-are}
 use Rattle.writing.proofs.Outcomes.{outcome_unwritable, outcome-short, outcome-entered}
 use Rattle.writer.specs.Inner.Entries.{entered}
 use Rattle.writer.specs.Inner.Fields.{fields_to}
+use Rattle.writer.proofs.Entering.{entered-chunks}
 
 -- A description of n nodes.
-module _ (desc starts : List ℕ) (n : ℕ) (r : Readable desc starts n) where
-  pub few : n ≤ 64
-  unfolding most_nodes
-  few = omega (arith, r.some-node, (r.placed (n - 1) (omega (arith, r.some-node))).few)
-
+module _ (desc : List ℕ) (n : ℕ) (r : Rooted desc n) where
   module _ (is : examined desc ≡ Ok n) (m : ℕ) (values : List ℕ) (count : ℕ) where
     same-fields : fields_to desc n ≡ fields_of desc
     unfolding fields_to fields_of
@@ -33,8 +30,8 @@ module _ (desc starts : List ℕ) (n : ℕ) (r : Readable desc starts n) where
       short_call h = outcome-short m desc values count _ r.means (ap some_unwritable (sym same-fields) ∙ writable) h
 
       -- and then by the entries
-      pub entered_call : count ≤ holds values → outcome m desc values count ≡ entered m values (fields_to desc n) count
-      unfolding entered
+      pub entered_call : count ≤ holds values → outcome m desc values count ≡ entered m (fields_to desc n) (first_chunks 4 count values)
       entered_call h =
           outcome-entered m desc values count _ r.means (ap some_unwritable (sym same-fields) ∙ writable) h
-          ∙ ap (λ (fields : List Field). entered m values fields count) (sym same-fields)
+          ∙ sym (entered-chunks values (fields_of desc) m count)
+          ∙ ap (λ (fields : List Field). entered m fields (first_chunks 4 count values)) (sym same-fields)

@@ -1,14 +1,12 @@
 -- The fields of the first nodes of a description.
-use Rattle.std.proofs.Common.{◌≡◌, ℕ, zero, suc, ◌+◌, ◌<◌, Bool, true, false, ◌||◌, List, [], ◌∷◌, ◌++◌, length, get_or, sym, refl, ap, ◌∙◌, add-one, arith}
+use Rattle.std.proofs.Common.{◌≡◌, ℕ, zero, suc, ◌+◌, ◌<◌, Bool, true, false, ◌||◌, List, [], ◌∷◌, ◌++◌, sym, refl, ap, ◌∙◌, add-one, arith}
 use mathlib.Core.List.{map-append}
 use native.Mathlib.Decide.{ℕ_discrete}
 use Rattle.description.specs.Check.{node_at}
 use Rattle.description.specs.Places.{start, nodes_to}
 use Rattle.std.proofs.lemmas.Bool.{or_left, or_right}
-use Rattle.description.proofs.Numbered.{grown-length, grown-at}
 use Rattle.writing.specs.Fields.{field_of, is_unwritable, some_unwritable}
 use Rattle.writing.specs.declared.Field.{Field}
-use Rattle.writing.specs.declared.Field.TheVariants.{Nothing}
 use Rattle.writer.specs.Inner.Fields.{node_field, fields_to}
 
 or_false : (a : Bool) → a || false ≡ a
@@ -32,12 +30,6 @@ module _ (d : List ℕ) where
   pub fields-more : (k : ℕ) → fields_to d (suc k) ≡ fields_to d k ++ (node_field d k ∷ [])
   unfolding fields_to nodes_to node_field
   fields-more k = map-append field_of (nodes_to d k) (node_at d (start d k) ∷ [])
-
-  pub fields-length : (n : ℕ) → length (fields_to d n) ≡ n
-  fields-length = grown-length (fields_to d) (node_field d) fields-none fields-more
-
-  fields_at : (n k : ℕ) → k < n → get_or (fields_to d n) k Nothing ≡ node_field d k
-  fields_at n k h = grown-at (fields_to d) (node_field d) fields-none fields-more n k Nothing h
 
   pub writable-none : some_unwritable (fields_to d 0) ≡ false
   unfolding some_unwritable

@@ -1,16 +1,15 @@
 -- What putting bits into a buffer keeps.
-use Rattle.std.proofs.Common.{◌≡◌, ℕ, zero, suc, ◌+◌, ◌-◌, ◌*◌, ◌/◌, ◌%◌, ◌^◌, ◌<◌, ◌≤◌, List, [], ◌∷◌, ◌++◌, length, take, drop, replicate, sym, refl, ap, ◌∙◌, subst, ap₂, append_assoc, append-nil, add-zero, arith, length-append, length-take, length-drop, take-append-drop, drop_of_length-le, drop-drop, pow_pos, pow-add, shr-shr, zero-add, suc-add}
+use Rattle.std.proofs.Common.{◌≡◌, ℕ, zero, suc, ◌+◌, ◌-◌, ◌*◌, ◌/◌, ◌%◌, ◌^◌, ◌<◌, ◌≤◌, List, [], ◌∷◌, ◌++◌, length, take, drop, replicate, sym, refl, ap, ◌∙◌, subst, ap₂, append_assoc, append-nil, add-zero, arith, length-append, length-take, length-drop, drop_of_length-le, pow_pos, pow-add, shr-shr, zero-add, suc-add}
 use native.Mathlib.Nat.{sub-zero, pow-suc, zero-div, zero-mul}
 use borrow.Rule.Slice.PartMut.{put_mid, same_len_mid}
 use lib.Bits.{bit_or, or_shifted, or_zero_r}
 use lib.Seq.{drop-nil}
 use lib.Pow.{mod-pow-add, shl-shr, high, low}
-use Rattle.std.proofs.lemmas.List.{drop-replicate}
-use Rattle.std.proofs.lemmas.Slice.{take-put_mid, drop-put_mid}
+use Rattle.std.proofs.lemmas.Slice.{take-put_mid}
 use Rattle.std.specs.Int.{byte_at, bytes_high_first}
 use Rattle.writing.specs.Bits.{in_width, value, packed}
 use Rattle.writing.proofs.Widths.{width_length, width_low, width_same, width_split, packed_none, packed_byte}
-use Rattle.writer.specs.Inner.Packing.{Packs}
+use Rattle.writer.specs.Inner.Packing.{Stands}
 
 -- A number that is moved up keeps what is not moved out.
 moved-low : (a j w : ℕ) → (a * 2 ^ w) % 2 ^ (j + w) ≡ a % 2 ^ j * 2 ^ w
@@ -65,32 +64,32 @@ bytes-length : (k n : ℕ) → length (bytes_high_first k n) ≡ k
 bytes-length zero n = refl
 bytes-length (suc k) n = ap suc (bytes-length k n)
 
--- The lowest bytes of more.
-pub drop-bytes : (j k n : ℕ) → drop j (bytes_high_first (j + k) n) ≡ bytes_high_first k n
-drop-bytes zero k n = ap (λ (m : ℕ). bytes_high_first m n) (zero-add k)
-drop-bytes (suc j) k n = ap (λ (m : ℕ). drop (suc j) (bytes_high_first m n)) (suc-add j k) ∙ drop-bytes j k n
-
 put-length : (at k n : ℕ) (buffer : List ℕ) → at + k ≤ length buffer → length (put_mid at k buffer (bytes_high_first k n)) ≡ length buffer
 put-length at k n buffer fits = same_len_mid at k buffer (bytes_high_first k n) (omega (arith, bytes-length k n, length-take {A = ℕ}, length-drop {A = ℕ}))
 
+-- All that stands from one place on is replaced.
+put_rest : (from : ℕ) (buffer rest : List ℕ) → from ≤ length buffer → length buffer - from ≡ length rest
+    → put_mid from (length buffer - from) buffer rest ≡ take from buffer ++ rest
+put_rest from buffer rest h e =
+    ap (λ (l : List ℕ). take from buffer ++ (rest ++ l)) (drop_of_length-le (drop from buffer) {i = length buffer - from} (omega (arith, length-drop {A = ℕ})))
+    ∙ ap (λ (l : List ℕ). take from buffer ++ l) (append-nil rest)
+
 -- Nothing is put yet.
-pub packs_none : (acc : ℕ) (buffer : List ℕ) → buffer ≡ replicate (length buffer) 0 → Packs [] 0 0 acc buffer
+pub packs_none : (acc : ℕ) (buffer : List ℕ) → Stands [] 0 0 acc buffer
 unfolding in_width
-packs_none acc buffer e =
+packs_none acc buffer =
     record {
       long = refl;
-      clear = e ∙ ap (λ (n : ℕ). replicate n 0) (sym (sub-zero (length buffer)));
       kept = λ h more. ap (λ (n : ℕ). packed n more) (sym (sub-zero (length buffer)));
     }
 
 module _ (row : List ℕ) (at acc : ℕ) (buffer : List ℕ) where
   -- A number is put behind the bits that are held.
-  pub packs_more : (held w n : ℕ) → n < 2 ^ w → held + w ≤ 64 → Packs row at held acc buffer
-      → Packs (row ++ in_width w n) at (held + w) (bit_or ((acc * 2 ^ w) % 2 ^ 64) n) buffer
+  pub packs_more : (held w n : ℕ) → n < 2 ^ w → held + w ≤ 64 → Stands row at held acc buffer
+      → Stands (row ++ in_width w n) at (held + w) (bit_or ((acc * 2 ^ w) % 2 ^ 64) n) buffer
   packs_more held w n small fits p =
       record {
         long = length-append row (in_width w n) ∙ omega (arith, p.long, width_length w n);
-        clear = p.clear;
         kept =
             λ h more.
             ap (packed (length buffer)) (append_assoc row (in_width w n) more)
@@ -100,8 +99,8 @@ module _ (row : List ℕ) (at acc : ℕ) (buffer : List ℕ) where
       }
 
   -- The first k bytes of the bits that are held are stored.
-  pub packs_bytes : (k r : ℕ) → at + k ≤ length buffer → Packs row at (8 * k + r) acc buffer
-      → Packs row (at + k) r acc (put_mid at k buffer (bytes_high_first k (acc / 2 ^ r)))
+  pub packs_bytes : (k r : ℕ) → at + k ≤ length buffer → Stands row at (8 * k + r) acc buffer
+      → Stands row (at + k) r acc (put_mid at k buffer (bytes_high_first k (acc / 2 ^ r)))
   packs_bytes k r fits p =
       let bytes = bytes_high_first k (acc / 2 ^ r) in
       let many = bytes-length k (acc / 2 ^ r) in
@@ -111,10 +110,6 @@ module _ (row : List ℕ) (at acc : ℕ) (buffer : List ℕ) where
       let left : length buffer - at ≡ k + n = omega arith in
       record {
         long = omega (arith, p.long);
-        clear =
-            drop-put_mid at k buffer bytes (at + k) (omega arith) (omega arith) many
-            ∙ sym (drop-drop k at buffer) ∙ ap (drop k) p.clear ∙ drop-replicate k (length buffer - at) 0
-            ∙ ap (λ (m : ℕ). replicate m 0) (omega arith);
         kept =
             λ h more.
             ap (λ (m : ℕ). packed m (row ++ more)) same
@@ -126,21 +121,23 @@ module _ (row : List ℕ) (at acc : ℕ) (buffer : List ℕ) where
       }
 
   -- There is no room for them.
-  pub packs_past : (k r : ℕ) → length buffer < at + k → Packs row at (8 * k + r) acc buffer → Packs row (at + k) r acc buffer
+  pub packs_past : (k r : ℕ) → length buffer < at + k → Stands row at (8 * k + r) acc buffer → Stands row (at + k) r acc buffer
   packs_past k r h p =
-      let none : 0 ≡ length buffer - (at + k) = omega arith in
       record {
         long = omega (arith, p.long);
-        clear = drop_of_length-le buffer {i = at + k} (omega arith) ∙ ap (λ (n : ℕ). replicate n 0) none;
         kept = λ fits more. absurd (omega arith);
       }
 
-  -- No bit is held any more.
-  packs_all : at ≤ length buffer → Packs row at 0 acc buffer → buffer ≡ packed (length buffer) row
+  -- No bit is held any more, and the bytes from one place on are cleared, which is where those that were stored end.
+  packs_all : (rest : List ℕ) (from : ℕ) → at ≤ length buffer → Stands row at 0 acc buffer → from ≡ at → rest ≡ replicate (length rest) 0
+      → length rest ≡ length (take (length buffer - from) (drop from buffer)) → put_mid from (length buffer - from) buffer rest ≡ packed (length buffer) row
   unfolding in_width
-  packs_all h p =
-      sym (take-append-drop at buffer)
-      ∙ ap (λ (l : List ℕ). take at buffer ++ l) (p.clear ∙ sym (packed_none (length buffer - at)))
+  packs_all rest from h p end zeros many =
+      let left : length rest ≡ length buffer - at = omega (arith, many, end, length-take {A = ℕ}, length-drop {A = ℕ}) in
+      let cleared : rest ≡ replicate (length buffer - at) 0 = rw left at zeros in
+      ap (λ (k : ℕ). put_mid k (length buffer - k) buffer rest) end
+      ∙ put_rest at buffer rest h (sym left)
+      ∙ ap (λ (l : List ℕ). take at buffer ++ l) (cleared ∙ sym (packed_none (length buffer - at)))
       ∙ sym (p.kept h [])
       ∙ ap (packed (length buffer)) (append-nil row)
 
@@ -175,17 +172,22 @@ packed-padded (suc n) row z =
     let rest = drop-padded 8 row z in
     ap₂ ◌∷◌ (value-padded 8 row z) (ap (packed n) rest.1 ∙ packed-padded n (drop 8 row) rest.0)
 
--- The bits that are held are stored, in front of zero bits.
-pub packs_padded : (row : List ℕ) (at held acc : ℕ) (buffer : List ℕ) (k : ℕ) → held ≤ 8 * k → k ≤ 8 → at + k ≤ length buffer → Packs row at held acc buffer
-    → put_mid at k buffer (bytes_high_first k ((acc * 2 ^ (8 * k - held)) % 2 ^ 64)) ≡ packed (length buffer) row
-packs_padded row at held acc buffer k few narrow fits p =
+-- The bits that are held are stored, in front of zero bits, and then all bytes from one place on are cleared, which is where they end.
+pub packs_padded : (row : List ℕ) (at held acc : ℕ) (buffer after rest : List ℕ) (k from : ℕ)
+    → held ≤ 8 * k → k ≤ 8 → at + k ≤ length buffer → Stands row at held acc buffer
+    → after ≡ put_mid at k buffer (bytes_high_first k ((acc * 2 ^ (8 * k - held)) % 2 ^ 64)) → from ≡ at + k → rest ≡ replicate (length rest) 0
+    → length rest ≡ length (take (length after - from) (drop from after)) → put_mid from (length after - from) after rest ≡ packed (length buffer) row
+packs_padded row at held acc buffer after rest k from few narrow fits p is end zeros many =
     let z = 8 * k - held in
+    let padded = row ++ in_width z 0 in
     let moved = (acc * 2 ^ z) % 2 ^ 64 in
     let same : bit_or moved 0 ≡ moved = or_zero_r moved in
     let all : held + z ≡ 8 * k + 0 = omega arith in
     let whole : moved / 2 ^ 0 ≡ moved = omega arith in
-    let more : Packs (row ++ in_width z 0) at (8 * k + 0) moved buffer = rw (← all, ← same) (packs_more row at acc buffer held z 0 (pow_pos z) (omega arith) p) in
-    let long = put-length at k moved buffer fits in
-    let stored : Packs (row ++ in_width z 0) (at + k) 0 moved (put_mid at k buffer (bytes_high_first k moved)) =
-    subst (λ (m : ℕ). Packs (row ++ in_width z 0) (at + k) 0 moved (put_mid at k buffer (bytes_high_first k m))) whole (packs_bytes (row ++ in_width z 0) at moved buffer k 0 fits more) in
-    packs_all (row ++ in_width z 0) (at + k) moved _ (omega arith) stored ∙ ap (λ (n : ℕ). packed n (row ++ in_width z 0)) long ∙ packed-padded (length buffer) row z
+    let more : Stands padded at (8 * k + 0) moved buffer = rw (← all, ← same) (packs_more row at acc buffer held z 0 (pow_pos z) (omega arith) p) in
+    let stored : Stands padded (at + k) 0 moved after =
+    rw is (subst (λ (m : ℕ). Stands padded (at + k) 0 moved (put_mid at k buffer (bytes_high_first k m))) whole (packs_bytes padded at moved buffer k 0 fits more)) in
+    let long : length after ≡ length buffer = ap (length {A = ℕ}) is ∙ put-length at k moved buffer fits in
+    packs_all padded (at + k) moved after rest from (omega (arith, long)) stored end zeros many
+    ∙ ap (λ (n : ℕ). packed n padded) long
+    ∙ packed-padded (length buffer) row z

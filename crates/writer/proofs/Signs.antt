@@ -119,7 +119,7 @@ module _ (w t h n : ℕ) (below : n < 2 ^ 32) where
   wrong-field (Signed zero) some l = absurd (omega arith)
   wrong-field (Signed (suc v)) some l =
       let same : suc v - 1 ≡ v = omega arith in
-      rw (l.width, l.half, same) (wrong-signed v n l.listed.1 below)
+      rw (l.width, l.half, same) (wrong-signed v n (omega (arith, l.narrow, l.width)) below)
   wrong-field Unwritable some l = absurd (omega arith)
 
   -- the largest number of the width is passed, or not
@@ -146,5 +146,5 @@ module _ (w t h n : ℕ) (below : n < 2 ^ 32) where
   bits-field (Signed zero) some l r = absurd (omega arith)
   bits-field (Signed (suc v)) some l r =
       let half : h ≡ 2 ^ v = l.half ∙ ap (λ (k : ℕ). 2 ^ k) (omega arith) in
-      rw half (turned-sign v ((n + 2 ^ v) % 2 ^ 32) (rw (half, l.width) at (inside-most l r)) ∙ turned-back v n l.listed.1)
+      rw half (turned-sign v ((n + 2 ^ v) % 2 ^ 32) (rw (half, l.width) at (inside-most l r)) ∙ turned-back v n (omega (arith, l.narrow, l.width)))
   bits-field Unwritable some l r = absurd (omega arith)

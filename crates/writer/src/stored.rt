@@ -1,11 +1,10 @@
 // What is looked up of a node: what its field's numbers are checked and written by, so that no number is asked anything that its node has told.
-ghost use Rattle.std.specs.Prelude.{◌≡◌, ◌≤◌, ◌-◌, ◌^◌};
-
+use description::kinds::Kind;
+use description::places::Nodes;
 use std::marker::Model;
-use writing::Field;
 
-// A field that can be written. 0 and no Option for a number that has no sign: it is moved up by nothing, and nothing is turned back, with no case for it;
-// the same of a field of which nothing is stored, which has no bits.
+/// A field that can be written. 0 and no Option for a number that has no sign: it is moved up by nothing, and nothing is turned back, with no case for it;
+/// the same of a field of which nothing is stored, which has no bits.
 #[derive(Clone, Copy, Default)]
 pub struct Stored {
     // How many bits, 0 where nothing is stored.
@@ -32,44 +31,52 @@ impl Model for Stored {
 }
 
 impl Stored {
-    ghost use Rattle.std.specs.Prelude.{◌≡◌, ◌≤◌, ◌<◌, ◌^◌, ◌%◌, not, is_none, IfSome};
+    ghost use Rattle.std.specs.Prelude.{◌≡◌, ◌<◌, ◌-◌, ◌^◌, ◌%◌, not, is_none, IfSome, length};
     ghost use Rattle.writing.specs.Bits.{width_of, of_width};
     ghost use Rattle.writing.specs.Fields.{is_unwritable};
-    ghost use Rattle.writer.specs.Inner.Stored.{Listed};
+    ghost use Rattle.writing.specs.declared.Field.TheVariants.{Nothing};
+    ghost use Rattle.writer.specs.Inner.Fields.{node_field};
+    ghost use Rattle.writer.specs.Inner.Stored.{field_with, IsLooked};
 
-    // None for a field that cannot be written.
-    #[tactic(auto, unfolding(writing::specs::Fields::is_unwritable))]
-    pub fn new(field: Field) -> Option<Stored>
-        requires { Listed field }
-        ensures unwritable { is_none result ≡ is_unwritable field }
-        ensures value { IfSome result (λ stored. stored ≡ field) }
+    /// What is looked up of a node; None for one that cannot be written. Kinds are matched here alone.
+    pub fn of_node(nodes: &Nodes, node: usize) -> Option<Stored>
+        requires { node < length nodes.now.starts.now }
+        ensures unwritable { is_none result ≡ is_unwritable (node_field nodes.now.desc.now node) }
+        ensures value { IfSome result (λ stored. stored ≡ node_field nodes.now.desc.now node) }
     {
-        match field {
-            Field::Nothing => Some(Stored::default()),
-            Field::Bits(w) => Some(Stored {
-                width: u32::from(w),
-                most: most_of(w),
-                half: 0,
-            }),
-            Field::Signed(w) => Some(Stored {
-                width: u32::from(w),
-                most: most_of(w),
-                half: 1 << (w - 1),
-            }),
-            Field::Unwritable => None,
+        match nodes.kind_of(node) {
+            Kind::Bits => Some(Stored::new(nodes.field_of(node, 0), 0)),
+            Kind::Signed => {
+                let width = nodes.field_of(node, 0);
+                Some(Stored::new(width, 1 << (width - 1)))
+            }
+            Kind::Both | Kind::Absorb | Kind::Scan => None,
+            _ => Some(Stored::default()),
         }
     }
 
+    // The field that has so many bits and this half.
+    fn new(width: u8, half: u32) -> Stored
+        requires { IsLooked (field_with width half) width (2 ^ width - 1) half }
+        ensures { result ≡ field_with width half }
+    {
+        Stored {
+            width: u32::from(width),
+            most: ((1u64 << width) - 1) as u32,
+            half,
+        }
+    }
+
+    #[tactic(auto, using(crate::proofs::Looked::with_none))]
     pub fn width(self) -> u32
         ensures value { result ≡ width_of self }
-        ensures most { result ≤ 32 }
-        ensures listed { Listed self }
+        ensures nothing { result ≡ 0 → self ≡ Nothing }
     {
         self.width
     }
 
-    // The bits of a number that is one of its width. Moved up by half of what there is, modulo 2^32, such a number lies below all of it; that has turned
-    // the bit of the sign over, which is then turned back.
+    /// The bits of a number that is one of its width. Moved up by half of what there is, modulo 2^32, such a number lies below all of it; that has turned
+    /// the bit of the sign over, which is then turned back.
     pub fn bits_of(self, number: u32) -> Option<u32>
         requires { 0 < width_of self }
         ensures wrong { is_none result ≡ not (of_width self number) }
@@ -81,12 +88,4 @@ impl Stored {
         }
         Some(moved ^ self.half)
     }
-}
-
-// The largest number of w bits.
-fn most_of(w: u8) -> u32
-    requires { w ≤ 32 }
-    ensures { result ≡ 2 ^ w - 1 }
-{
-    ((1u64 << w) - 1) as u32
 }

@@ -6,6 +6,7 @@ use mathlib.Core.Path.{◌≡◌}
 use lib.Dec.{leb}
 use lib.ListN.{length, get_or}
 use borrow.Author.Tests.{leb-false}
+use Rattle.description.proofs.Children.{smaller-parts}
 use Rattle.description.specs.Check.{some_not_smaller}
 use Rattle.description.specs.Nodes.{Node, children}
 use Rattle.description.specs.Trees.{Tree, unit, bottom, bits, signed, then, bind, either, both, where', sequence, compute, absorb, scan, tree}
@@ -39,12 +40,10 @@ module _ (fields : List Field) where
   -- A node's tree, where the nodes before it have theirs.
   module _ (child : ℕ → Tree) (n : ℕ) (before : (c : ℕ) → c < n → Fielded (child c)) where
     first : (a : ℕ) (cs : List ℕ) → some_not_smaller n (a ∷ cs) ≡ false → Fielded (child a)
-    unfolding some_not_smaller
-    first a cs e = before a (leb-false n a (or_parts (leb n a) (some_not_smaller n cs) e).0)
+    first a cs e = before a (smaller-parts n a cs e).0
 
     rest : (a : ℕ) (cs : List ℕ) → some_not_smaller n (a ∷ cs) ≡ false → some_not_smaller n cs ≡ false
-    unfolding some_not_smaller
-    rest a cs e = (or_parts (leb n a) (some_not_smaller n cs) e).1
+    rest a cs e = (smaller-parts n a cs e).1
 
     pub node_fielded : (node : Node) → Own n (field_of node) → some_not_smaller n (children node) ≡ false → Fielded (tree child n node)
     unfolding tree children field_of

@@ -1,7 +1,8 @@
 -- A node's children as bytes of its body, and what the node puts around them and needs itself.
-use Rattle.std.specs.Prelude.{ℕ, zero, suc, ◌+◌, max, cond, ◌&&◌, ◌||◌, List, [], ◌∷◌, eqb, take}
+use Rattle.std.specs.Prelude.{ℕ, zero, suc, ◌+◌, max, cond, ◌&&◌, ◌||◌, List, [], ◌∷◌, eqb, take, Option, Some, None}
 use Rattle.description.specs.Binds.{needs_of}
 use Rattle.description.specs.Kinds.{byte, operand}
+use Rattle.description.specs.Nodes.{Operand, constant, bound}
 
 -- The k bytes from byte i on, as children.
 unfoldable pub children_at : List ℕ → ℕ → ℕ → List ℕ
@@ -11,6 +12,11 @@ children_at desc i (suc k) = byte desc i ∷ children_at desc (i + 1) k
 -- How many binds a node puts around its child at place j: "Only the second child of a bind lies inside that binding."
 unfoldable pub binding : ℕ → ℕ → ℕ
 binding kind j = cond (eqb kind 5 && eqb j 1) 1 0
+
+-- The bind that an operand names.
+abbrev pub bind_named : Operand → Option ℕ
+bind_named (constant z) = None
+bind_named (bound k) = Some k
 
 -- How many binds the operands of a body that begins at byte i need around them: a where's, a sequence's, a compute's.
 unfoldable pub own_needs : List ℕ → ℕ → ℕ → ℕ

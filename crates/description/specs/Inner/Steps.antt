@@ -7,6 +7,11 @@ use Rattle.description.specs.Inner.Names.{Marks}
 use Rattle.description.specs.Nodes.{Node}
 use Rattle.description.specs.Places.{start, nodes_to, Found}
 use Rattle.description.specs.declared.Refusal.{Refusal}
+use Rattle.description.specs.declared.places.Nodes.{Nodes}
+
+-- The nodes that a `Nodes` has.
+abbrev pub front : Nodes → List Node
+front nodes = nodes_to nodes.desc.now (length nodes.starts.now)
 
 -- What the step over one node answers: its refusal, or where the next begins.
 unfoldable pub step_of : Option Refusal → ℕ → Result ℕ Refusal

@@ -2,5 +2,5 @@
 use Rattle.std.specs.Prelude.{ℕ, ◌+◌, ◌*◌}
 
 -- The longest listing: a first line of 30 bytes, and 1,024 entries of eight numbers, each with ten digits and what follows it.
-unfoldable pub most_text : ℕ
+abbrev pub most_text : ℕ
 most_text = 30 + 88 * 1024

@@ -11,13 +11,6 @@ half_of (Bits w) = 0
 half_of (Signed w) = 2 ^ (w - 1)
 half_of Unwritable = 0
 
--- "width 1 to 32"
-abbrev pub Listed : Field → Type 0
-Listed Nothing = Unit
-Listed (Bits w) = (1 ≤ w) × (w ≤ 32)
-Listed (Signed w) = (1 ≤ w) × (w ≤ 32)
-Listed Unwritable = Unit
-
 -- The field with this width, 0 where nothing of it is stored, and this half.
 abbrev pub field_with : (width half : ℕ) → Field
 field_with zero half = Nothing
@@ -26,7 +19,7 @@ field_with (suc w) (suc h) = Signed (suc w)
 
 -- The three numbers are those of the field: its width, the largest number of that width, and half.
 pub record IsLooked (f : Field) (w m h : ℕ) : Type 0 where
-  pub listed : Listed f
+  pub narrow : w ≤ 32
   pub width : w ≡ width_of f
   pub most : m ≡ 2 ^ width_of f - 1
   pub half : h ≡ half_of f

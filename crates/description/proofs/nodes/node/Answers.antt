@@ -1,5 +1,7 @@
 -- Each test of the step is one of `node_refusal`, in its order; what a child's flag says is what its being named is.
 use Rattle.std.proofs.Common.{◌≡◌, ℕ, ◌+◌, ◌-◌, ◌≤◌, ◌<◌, List, false, length, take, drop, sym, ap, ◌∙◌, arith, length-take}
+use Rattle.std.specs.Prelude.{Result, Ok, Err, OnOk, IsOk}
+use Rattle.std.proofs.lemmas.Bool.{false≢true}
 use Rattle.description.specs.Bodies.{byte_of, child_count}
 use Rattle.description.specs.Check.{some_not_smaller, node_at, node_end, node_refusal, first_of, refuse_if}
 use Rattle.description.specs.Inner.Children.{number_children}
@@ -32,9 +34,9 @@ module _ (d : List ℕ) (at bytes : ℕ) (kind : Kind) (is : byte_of kind ≡ by
 below : (n : ℕ) (cs : List ℕ) → n < most_nodes → false ≡ some_not_smaller n cs → some_not_smaller most_nodes cs ≡ false
 below n cs few none = smaller-still n most_nodes cs (omega arith) (sym none)
 
-pub overflow_cast-n : goal.overflow_cast-n
-unfolding most_nodes
-overflow_cast-n c = omega arith
+when-ok : {T E P : Type 0} (r : Result T E) → IsOk r → OnOk r P → P
+when-ok (Ok x) e p = p
+when-ok (Err x) e p = absurd (false≢true e)
 
 pub overflow_add-end-2 : goal.overflow_add-end-2
 unfolding most_bytes
@@ -51,9 +53,9 @@ pub returns-in_default-get : goal.returns-in_default-get
 unfolding step_of node_refusal first_of refuse_if node_end byte
 returns-in_default-get c = record { value = grind (arith, byte_below, nodes-length); marked = grind (arith, byte_below, nodes-length) }
 
-pub returns-then-not-listed : goal.returns-then-not-listed
+pub returns-then-not-is_listed : goal.returns-then-not-is_listed
 unfolding step_of node_refusal first_of refuse_if node_end byte
-returns-then-not-listed c =
+returns-then-not-is_listed c =
     let f = c.in-Some.ensures.lookup.0 in
     let listed = listed-is _ _ _ _ c.in-Ok.ensures c.bytes.ensures f.1 _ f.2 in
     record { value = grind (arith, byte_below, nodes-length); marked = grind (arith, byte_below, nodes-length) }
@@ -66,19 +68,19 @@ returns-then-some_not_smaller c =
     let kids = kids-are _ _ _ _ c.in-Ok.ensures c.bytes.ensures f.1 _ f.2 _ c.children.ensures in
     record { value = grind (arith, byte_below, nodes-length); marked = grind (arith, byte_below, nodes-length) }
 
-pub some_named_before-requires : goal.some_named_before-requires
-some_named_before-requires c = below _ _ c.requires.within.2 c.if-some_not_smaller.ensures
+pub name_all-requires : goal.name_all-requires
+name_all-requires c = below _ _ c.requires.within.1 c.if-some_not_smaller.ensures
 
 pub some_no_number-requires-clause-count : goal.some_no_number-requires-clause-count
 some_no_number-requires-clause-count c = grind (arith, length-take, count-bytes)
 
-pub returns-then-some_named_before : goal.returns-then-some_named_before
+pub returns-then-is_err : goal.returns-then-is_err
 unfolding step_of node_refusal first_of refuse_if node_end byte
-returns-then-some_named_before c =
+returns-then-is_err c =
     let f = c.in-Some.ensures.lookup.0 in
     let listed = listed-is _ _ _ _ c.in-Ok.ensures c.bytes.ensures f.1 _ f.2 in
     let kids = kids-are _ _ _ _ c.in-Ok.ensures c.bytes.ensures f.1 _ f.2 _ c.children.ensures in
-    let new = tested _ _ _ c.requires.marks (below _ _ c.requires.within.2 c.if-some_not_smaller.ensures) in
+    let new = tested _ _ _ c.requires.marks (below _ _ c.requires.within.1 c.if-some_not_smaller.ensures) in
     record { value = grind (arith, byte_below, nodes-length); marked = grind (arith, byte_below, nodes-length) }
 
 pub returns-then-some_no_number : goal.returns-then-some_no_number
@@ -87,7 +89,7 @@ returns-then-some_no_number c =
     let f = c.in-Some.ensures.lookup.0 in
     let listed = listed-is _ _ _ _ c.in-Ok.ensures c.bytes.ensures f.1 _ f.2 in
     let kids = kids-are _ _ _ _ c.in-Ok.ensures c.bytes.ensures f.1 _ f.2 _ c.children.ensures in
-    let new = tested _ _ _ c.requires.marks (below _ _ c.requires.within.2 c.if-some_not_smaller.ensures) in
+    let new = tested _ _ _ c.requires.marks (below _ _ c.requires.within.1 c.if-some_not_smaller.ensures) in
     let asked = asked-are _ _ _ _ c.in-Ok.ensures c.bytes.ensures f.1 _ f.2 _ c.children.ensures in
     record { value = grind (arith, byte_below, nodes-length); marked = grind (arith, byte_below, nodes-length) }
 
@@ -97,10 +99,10 @@ returns c =
     let f = c.in-Some.ensures.lookup.0 in
     let listed = listed-is _ _ _ _ c.in-Ok.ensures c.bytes.ensures f.1 _ f.2 in
     let kids = kids-are _ _ _ _ c.in-Ok.ensures c.bytes.ensures f.1 _ f.2 _ c.children.ensures in
-    let new = tested _ _ _ c.requires.marks (below _ _ c.requires.within.2 c.if-some_not_smaller.ensures) in
+    let new = tested _ _ _ c.requires.marks (below _ _ c.requires.within.1 c.if-some_not_smaller.ensures) in
     let asked = asked-are _ _ _ _ c.in-Ok.ensures c.bytes.ensures f.1 _ f.2 _ c.children.ensures in
-    let marks = marking _ _ _ c.requires.marks (below _ _ c.requires.within.2 c.if-some_not_smaller.ensures) in
+    let marks = marking _ _ _ c.requires.marks (below _ _ c.requires.within.1 c.if-some_not_smaller.ensures) in
     record {
       value = grind (arith, byte_below, nodes-length);
-      marked = λ e. rw (← kids, c.some_named_before.ensures.named_after c.if-some_named_before.false) marks;
+      marked = λ e. rw (← kids, when-ok _ c.if-is_err.ensures.negation c.name_all.ensures.named_after) marks;
     }

@@ -1,11 +1,11 @@
 -- A bind's or a where's first child is a node before, and its kind says whether it is a number.
-use Rattle.std.proofs.Common.{◌≡◌, ℕ, ◌<◌, List, [], ◌∷◌, Bool, true, false, not, ◌||◌, length, take, get_or, refl, arith, leb, leb-false}
+use Rattle.std.proofs.Common.{◌≡◌, ℕ, ◌<◌, List, [], ◌∷◌, Bool, true, false, not, ◌||◌, length, take, get_or, refl, arith}
 use Rattle.description.specs.Bodies.{child_counts, child_count}
 use Rattle.description.specs.Check.{some_not_smaller, some_no_number}
 use Rattle.description.specs.Inner.Children.{number_children}
 use Rattle.description.specs.Nodes.{Node, unit, is_number}
 use Rattle.description.specs.Places.{nodes_to, kind_of}
-use Rattle.std.proofs.lemmas.Bool.{or_parts}
+use Rattle.description.proofs.Children.{smaller-parts}
 use Rattle.description.proofs.Numbered.{nodes-at}
 use Rattle.description.proofs.Rows.{number_at}
 use Rattle.description.proofs.nodes.some_no_number.Goals as goal
@@ -13,7 +13,7 @@ use Rattle.description.proofs.nodes.some_no_number.Goals as goal
 first-below : (n : ℕ) (cs : List ℕ) → 0 < length cs → some_not_smaller n cs ≡ false → get_or cs 0 0 < n
 unfolding some_not_smaller
 first-below n [] h e = absurd (omega arith)
-first-below n (c ∷ cs) h e = leb-false n c (or_parts (leb n c) (some_not_smaller n cs) e).0
+first-below n (c ∷ cs) h e = (smaller-parts n c cs e).0
 
 or_false : (b : Bool) → (b || false) ≡ b
 or_false true = refl
@@ -38,8 +38,8 @@ returns-then-matches c =
     let some : 0 < length c.args.children.now = grind arith in
     let below = first-below _ _ some c.requires.smaller in
     let b = c.args.before.now in
-    let asked = first-asked (nodes_to b.desc.now b.count) _ some in
-    let child = nodes-at b.desc.now b.count _ below in
+    let asked = first-asked (nodes_to b.desc.now (length b.starts.now)) _ some in
+    let child = nodes-at b.desc.now (length b.starts.now) _ below in
     grind (arith, number_at)
 
 pub returns-else-matches : goal.returns-else-matches

@@ -1,7 +1,7 @@
 -- The words of the operands are added or subtracted past 2 ^ 32, and the remainder by 2 ^ w leaves what it leaves of the numbers themselves.
-use Rattle.std.proofs.Common.{◌≡◌, ℕ, ◌+◌, ◌-◌, ◌%◌, ◌^◌, ◌≤◌, ℤ, pos, ◌+ℤ◌, ◌-ℤ◌, ap, ◌∙◌, arith, to_z-of_z, w64}
-use borrow.Author.Rules.{sfits_of}
+use Rattle.std.proofs.Common.{◌≡◌, ℕ, ◌+◌, ◌-◌, ◌%◌, ◌^◌, ◌≤◌, ℤ, pos, ◌+ℤ◌, ◌-ℤ◌, ap, ◌∙◌, arith, rules, to_z-of_z}
 use Rattle.bits.specs.Whole.{modulo, word}
+use Rattle.description.specs.Bodies.{operator_meant}
 use Rattle.bits.proofs.Words.{word_below, word_sum, word-difference, word-modulo}
 use Rattle.rules.specs.Numbers.{result}
 use Rattle.reader.proofs.numbers.computed.Goals as goal
@@ -24,8 +24,10 @@ returns c =
     let a = c.args in
     let x = c.word_of-x.ensures ∙ ap word (to_z-of_z c.ranges.a) in
     let y = c.word_of-y.ensures ∙ ap word (to_z-of_z c.ranges.b) in
-    to_z-of_z (sfits_of {w = w64} c.remainder.type_inv) ∙ c.remainder.ensures
-    ∙ (elim c.match-operator.branch [
+    let low : pos (c.from.result % 2 ^ a.w) ≡ pos (modulo a.w (result (operator_meant a.operator) a.a a.b)) =
+    rw c.from.ensures
+    (elim c.match-operator.branch [
       | in-Add w ↦ rw (w.all-is, w.in-Add.is) (added a.w c.requires a.a a.b _ _ x y)
       | in-Subtract w ↦ rw (w.all-is, w.in-Subtract.is) (subtracted a.w c.requires a.a a.b _ _ x y)
-    ])
+    ]) in
+    rw (← low) (search rules)

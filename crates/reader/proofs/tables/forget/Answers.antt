@@ -11,9 +11,6 @@ module _ (c : After-first_word-to) where
   order =
       omega (arith, c.first_word-from.ensures, c.first_word-to.ensures, mul-le-mul_left c.args.words c.requires.1)
 
-pub slice_bounds-fill-count : goal.slice_bounds-fill-count
-slice_bounds-fill-count c = order c
-
 -- the part that came back is clear
 cleared : (xs ys : List ℕ) (a b from to : ℕ) → from ≡ min a (length xs) → to ≡ min b (length xs) → from ≤ to
     → ys ≡ replicate (length (mid_of from (to - from) xs)) 0 → put_mid from (to - from) xs ys ≡ forgotten xs a b

@@ -1,100 +1,83 @@
--- The entries before i are put, and those from i on are still to be looked at.
-use Rattle.std.proofs.Common.{◌≡◌, ℕ, true, false, ◌-◌, ◌<◌, List, ◌++◌, sym, refl, ap, ◌∙◌, subst, rules, arith}
-use native.Mathlib.Nat.{sub-zero}
-use Rattle.writing.specs.Entries.{is_wrong, some_wrong, bits_from, entry_words, node_at, number_at}
+-- The entries before this one are right, and put.
+use Rattle.std.proofs.Common.{◌≡◌, ℕ, true, ◌<◌, List, [], length, get_or, sym, ap, ◌∙◌, subst, append-nil, rules, arith}
 use Rattle.std.specs.Prelude.{Result, Err, OnOk}
-use Rattle.writing.specs.Bits.{width_of, in_width, field_bits}
+use Rattle.std.proofs.lemmas.Result.{err_from_is_err_and}
+use Rattle.writing.specs.Bits.{in_width, field_bits, width_of}
 use Rattle.writing.specs.Outcome.{Outcome, refusing}
 use Rattle.writing.specs.declared.Field.{Field}
 use Rattle.writing.specs.declared.Field.TheVariants.{Nothing}
 use Rattle.writing.specs.declared.Refused.{Refused}
 use Rattle.writing.specs.declared.Refused.TheVariants.{WrongTable}
 use Rattle.writing.proofs.Widths.{width_same}
-use Rattle.writer.specs.Inner.Entries.{entered}
-use Rattle.writer.specs.Inner.Packing.{Packs}
-use Rattle.writer.proofs.Entering.{wrong-node, wrong-number, right-none, rest-wrong, rest-right, bits-more, bits-none, entered-wrong, entered-right}
+use Rattle.writer.specs.Inner.Entries.{wrong_entry, entry_bits, entered}
+use Rattle.writer.proofs.Entering.{wrong-node, wrong-number, right-none, bits-are, bits-none, wrong-entered, right-entered, right-more, bits-more}
 use Rattle.writer.proofs.entries.write_entries.Goals as goal
-use Rattle.writer.proofs.entries.write_entries.Goals.{then-width-ne0+in-Some-bits_of, else-width-ne0}
+use Rattle.writer.proofs.entries.write_entries.Goals.{then-width-ne0+in_ok-bits, else-width-ne0}
 
--- entry i is wrong, and so the call is refused
-refused : (n : ℕ) (values : List ℕ) (fields : List Field) (count i : ℕ) → i < count → some_wrong values fields i (count - i) ≡ some_wrong values fields 0 count
-    → is_wrong values fields i ≡ true → Err WrongTable ≡ (entered n values fields count).answer
+-- the answer of a `?`, of an entry that is wrong
+refused : (n : ℕ) (fields : List Field) (entries : List (List ℕ)) (i : ℕ) (r : Result ℕ Refused) → i < length entries → r ≡ Err WrongTable
+    → wrong_entry fields (get_or entries i []) ≡ true → r ≡ (entered n fields entries).answer
 unfolding refusing
-refused n values fields count i h same wrong =
-    sym (ap (λ (o : Outcome). o.answer) (entered-wrong values fields n count (sym same ∙ rest-wrong values fields count i h wrong)))
-
-same_row : {row other buffer : List ℕ} {at held acc : ℕ} → row ≡ other → Packs row at held acc buffer → Packs other at held acc buffer
-same_row {buffer = buffer} {at = at} {held = held} {acc = acc} e p = subst (λ (r : List ℕ). Packs r at held acc buffer) e p
+refused n fields entries i r here is wrong = is ∙ sym (ap (λ (o : Outcome). o.answer) (wrong-entered fields entries i here n wrong))
 
 given-back : (r : Result ℕ Refused) (b x y : List ℕ) → b ≡ x → OnOk r (x ≡ y) → OnOk r (b ≡ y)
 given-back r b x y e p = subst (λ (z : List ℕ). OnOk r (z ≡ y)) (sym e) p
 
-pub loop-i-init : goal.loop-i-init
-unfolding bits_from
-loop-i-init c =
-    let n = c.new-packer.ensures in
-    record {
-      same_reference = refl;
-      long = n.same_length;
-      few = omega (arith, n.none.1);
-      near = omega (arith, n.none.0);
-      right = ap (some_wrong _ _ 0) (sub-zero c.args.count);
-      packs = n.packs;
-    }
+pub returns-in_err-field-clause-answer : goal.returns-in_err-field-clause-answer
+returns-in_err-field-clause-answer c =
+    let e = c.in_err-field.ensures in
+    let is = err_from_is_err_and c.from_residual.result c.from_residual.ensures.1 in
+    let none = rw e.ok_part at c.get.ensures.lookup in
+    refused _ _ _ c.loop-node.node-index _ c.loop-node-test.true (is.1 ∙ ap Err (is.2 ∙ cc (rw e.ok_part at e.value))) (wrong-node _ _ none.3)
 
-pub returns-in_default-clause-answer : goal.returns-in_default-clause-answer
-unfolding node_at entry_words
-returns-in_default-clause-answer c =
-    let l = c.loop-i in
-    refused _ _ _ _ l.i (omega arith) l.invariant.right (wrong-node _ _ l.i c.in_default.ensures.lookup.3)
-
-pub returns-in_default-bits_of-clause-answer : goal.returns-in_default-bits_of-clause-answer
-unfolding node_at number_at entry_words
-returns-in_default-bits_of-clause-answer c =
-    let l = c.loop-i in
-    let at = c.in-Some.ensures.lookup.3 in
-    refused _ _ _ _ l.i (omega arith) l.invariant.right (wrong-number _ _ l.i _ at.0 (at.1 Nothing) ∙ sym c.in_default-bits_of.ensures.wrong)
+pub returns-in_err-bits-clause-answer : goal.returns-in_err-bits-clause-answer
+returns-in_err-bits-clause-answer c =
+    let e = c.in_err-bits.ensures in
+    let is = err_from_is_err_and c.from_residual-in_err-bits.result c.from_residual-in_err-bits.ensures.1 in
+    let at = (rw c.in_ok-field.ensures.ok_part at c.get.ensures.lookup).3 in
+    let none = rw e.ok_part at c.bits_of.ensures.wrong in
+    refused _ _ _ c.loop-node.node-index _ c.loop-node-test.true (is.1 ∙ ap Err (is.2 ∙ cc (rw e.ok_part at e.value))) (wrong-number _ _ _ at.0 (at.1 Nothing) ∙ sym none)
 
 pub returns-clause-answer : goal.returns-clause-answer
 returns-clause-answer c =
-    let l = c.loop-i.invariant in
-    rw (← entered-right _ _ _ _ c.args.count c.loop-i.i l.long (omega arith) (omega arith) l.right) (c.finish.ensures.answer _ l.packs)
+    let l = c.loop-node.invariant in
+    rw (← right-entered _ _ c.loop-node.node-index _ _ l.long c.loop-node-test.false l.right) (c.finish.ensures.answer _ l.packs)
 
 pub returns-clause-bytes : goal.returns-clause-bytes
 returns-clause-bytes c =
-    let l = c.loop-i.invariant in
-    rw (← entered-right _ _ _ _ c.args.count c.loop-i.i l.long (omega arith) (omega arith) l.right) (given-back c.finish.result _ c.finish.new.self.0 _ (search rules) (c.finish.ensures.bytes _ l.packs))
+    let l = c.loop-node.invariant in
+    rw (← right-entered _ _ c.loop-node.node-index _ _ l.long c.loop-node-test.false l.right)
+    (given-back c.finish.result _ c.finish.new.self.0 _ (search rules) (c.finish.ensures.bytes _ l.packs))
 
-pub loop-i-preserved : goal.loop-i-preserved
-unfolding node_at number_at entry_words field_bits
-loop-i-preserved c =
-    let l = c.loop-i in
-    let at = c.in-Some.ensures.lookup.3 in
-    let values = c.args.values.now in
+pub loop-node-preserved : goal.loop-node-preserved
+unfolding field_bits
+loop-node-preserved c =
+    let l = c.loop-node in
     let fields = c.args.fields.now in
+    let entries = c.args.entries.now in
+    let here = c.loop-node-test.true in
+    let at = (rw c.in_ok-field.ensures.ok_part at c.get.ensures.lookup).3 in
     elim c.if-width-ne0.branch [
-      | then-width-ne0+in-Some-bits_of w ↦
+      | then-width-ne0+in_ok-bits w ↦
           let p = w.put.ensures in
-          let same : field_bits c.in-Some.field-0.now (number_at values l.i) ≡ in_width w.width-then-width-ne0.result w.in-Some-bits_of.bits =
-          rw (w.width-then-width-ne0.ensures.value, w.in-Some-bits_of.ensures.value) (sym (width_same _ _)) in
-          let right : is_wrong values fields l.i ≡ false = wrong-number values fields l.i _ at.0 (at.1 Nothing) ∙ sym w.in-Some-bits_of.ensures.wrong in
+          let found = rw w.in_ok-bits.ensures.ok_part at w.bits_of.ensures in
+          let same : entry_bits fields (get_or entries l.node-index []) ≡ in_width (width_of c.in_ok-field.field-0.now) w.in_ok-bits.bits =
+          bits-are fields _ _ at.0 (at.1 Nothing) ∙ rw found.value (sym (width_same _ _)) in
           rw w.packer-is (record {
             same_reference = p.same_reference ∙ l.invariant.same_reference;
             long = p.same_length ∙ l.invariant.long;
-            few = p.held_bound.0;
-            near = omega (arith, p.held_bound.1, l.invariant.near);
-            right = sym (rest-right values fields c.args.count l.i (omega arith) right) ∙ l.invariant.right;
-            packs = same_row (sym (bits-more values fields l.i _ at.0 (at.1 Nothing) ∙ ap (λ (bits : List ℕ). bits_from values fields 0 l.i ++ bits) same)) (p.packs _ l.invariant.packs);
+            near = omega (arith, p.near, l.invariant.near);
+            right = right-more fields entries l.node-index here l.invariant.right (wrong-number fields _ _ at.0 (at.1 Nothing) ∙ sym found.wrong);
+            packs = rw (bits-more fields entries l.node-index here, same) (p.packs _ l.invariant.packs);
           })
       | else-width-ne0 w ↦
-          let none : width_of c.in-Some.field-0.now ≡ 0 = sym c.width.ensures.value ∙ w.if-width-ne0.false in
-          let right : is_wrong values fields l.i ≡ false = right-none values fields l.i _ at.0 (at.1 Nothing) c.width.ensures.listed none in
+          let none = c.width.ensures.nothing w.if-width-ne0.false in
+          let same : entry_bits fields (get_or entries l.node-index []) ≡ [] = bits-none fields _ _ at.0 (at.1 Nothing) none in
           rw w.packer-is (record {
             same_reference = l.invariant.same_reference;
             long = l.invariant.long;
-            few = l.invariant.few;
             near = omega (arith, l.invariant.near);
-            right = sym (rest-right values fields c.args.count l.i (omega arith) right) ∙ l.invariant.right;
-            packs = same_row (sym (bits-none values fields l.i _ at.0 (at.1 Nothing) none)) l.invariant.packs;
+            right = right-more fields entries l.node-index here l.invariant.right (right-none fields _ _ at.0 (at.1 Nothing) none);
+            packs = rw (bits-more fields entries l.node-index here, same, append-nil) l.invariant.packs;
           })
     ]

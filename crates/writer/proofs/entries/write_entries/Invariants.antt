@@ -1,14 +1,15 @@
-use Rattle.std.proofs.Common.{◌≡◌, ◌-◌, ◌*◌, ◌<◌, ◌≤◌, length}
-use Rattle.writing.specs.Entries.{some_wrong, bits_from}
+use Rattle.std.proofs.Common.{◌≡◌, false, ◌*◌, ◌≤◌, length, take}
+use Rattle.std.specs.List.{list_any, flat_map}
+use Rattle.writer.specs.Inner.Entries.{wrong_entry, entry_bits}
 use Rattle.writer.specs.Inner.Packing.{Packs}
 use Rattle.writer.proofs.entries.write_entries.Given as goal
 
-abbrev pub invariant-loop-i : goal.invariant-loop-i
-invariant-loop-i l = record {
+-- the entries before this one are right, and put
+abbrev pub invariant-loop-node : goal.invariant-loop-node
+invariant-loop-node l = record {
   same_reference : l.packer.buffer.ghost_name ≡ l.initial.packer.buffer.ghost_name;
   long : length l.packer.buffer.now ≡ length l.fn.buffer;
-  few : l.packer.held < 32;
-  near : l.packer.at ≤ 4 * l.i;
-  right : some_wrong l.values l.fields l.i (l.count - l.i) ≡ some_wrong l.values l.fields 0 l.count;
-  packs : Packs (bits_from l.values l.fields 0 l.i) l.packer.at l.packer.held l.packer.acc l.packer.buffer.now;
+  near : l.packer.at ≤ 4 * l.node-index;
+  right : list_any (wrong_entry l.fields) (take l.node-index l.entries) ≡ false;
+  packs : Packs (flat_map (entry_bits l.fields) (take l.node-index l.entries)) l.packer;
 }

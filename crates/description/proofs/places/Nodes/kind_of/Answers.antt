@@ -3,28 +3,27 @@ use mathlib.Core.Path.{ap, subst, ◌∙◌}
 use Prim.Native.Nat.{ℕ, ◌≤◌}
 use native.Mathlib.Omega.{arith}
 use lib.ListN.{length}
+use Rattle.std.proofs.lemmas.Result.{MatchResult-at_ok}
 use Rattle.description.specs.Kinds.{byte, kinds}
-use Rattle.description.specs.Places.{kind_of, Placed}
-use Rattle.description.proofs.Standing.{begins, kind-inside, kind_below}
+use Rattle.description.specs.Places.{kind_of, Known}
+use Rattle.description.proofs.Bodies.{no-error}
+use Rattle.description.proofs.Standing.{kind_below}
 use Rattle.description.proofs.places.Nodes.kind_of.Goals as goal
 use Rattle.description.proofs.places.Nodes.kind_of.Goals.{Start}
 
-placed : (c : Start) → Placed c.args.self.now.desc.now c.args.self.now.starts.now c.args.node
-placed c = c.args.self.now.placed c.args.node c.requires
+known : (c : Start) → Known c.args.self.now.desc.now c.args.self.now.starts.now c.args.node
+known c = c.args.self.now.known c.args.node c.requires
 
-pub bounds-self-self : goal.bounds-self-self
-bounds-self-self c =
-    let p = placed (goal.at.bounds-self-self c).Start in
-    rw (begins _ _ _ p) (kind-inside _ _ _ p)
-
-pub unreachable-requires : goal.unreachable-requires
+pub unwrap-requires : goal.unwrap-requires
 unfolding kind_of byte
-unreachable-requires c =
+unwrap-requires c =
     let a = c.args in
-    let p = placed (goal.at.unreachable-requires c).Start in
-    let past : length kinds ≤ kind_of a.self.now.desc.now a.node = subst (λ (k : ℕ). length kinds ≤ byte a.self.now.desc.now k) (begins _ _ _ p) c.in_default.ensures in
-    omega (arith, kind_below _ _ _ p)
+    let p = known (goal.at.unwrap-requires c).Start in
+    no-error _ _ _ c.try_from.ensures
+    (λ _ h.
+    let past : length kinds ≤ kind_of a.self.now.desc.now a.node = subst (λ (k : ℕ). length kinds ≤ byte a.self.now.desc.now k) p.begins h in
+    omega (arith, kind_below _ _ _ p))
 
 pub returns : goal.returns
 unfolding kind_of byte
-returns c = c.in-Ok.ensures ∙ ap (byte c.args.self.now.desc.now) (begins _ _ _ (placed (goal.at.returns c).Start))
+returns c = MatchResult-at_ok _ _ _ c.unwrap.ensures c.try_from.ensures ∙ ap (byte c.args.self.now.desc.now) (known (goal.at.returns c).Start).begins

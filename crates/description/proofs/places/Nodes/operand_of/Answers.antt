@@ -1,33 +1,32 @@
 -- The operand's five bytes stand inside the body, so the four of a constant are inside the description.
-use borrow.Author.Rules.{rules}
-use borrow.Author.Tests.{eq-eqb}
+use borrow.Author.Rules.{sfits_of}
 use mathlib.Core.List.{List}
 use mathlib.Core.Path.{◌≡◌, sym, ap, ◌∙◌}
-use mir.Syntax.{w64}
-use mir.Val.{to_z, of_z}
 use Prim.Native.Nat.{ℕ, ◌+◌, ◌*◌, ◌≤◌, ◌<◌}
 use native.Mathlib.Omega.{arith}
 use lib.IntN.{ℤ}
 use lib.ListN.{length, get_or}
-use Rattle.std.specs.Prelude.{Ok}
+use Rattle.std.specs.Prelude.{Ok, None}
+use Rattle.std.proofs.Common.{refl, to_z-of_z, w64}
 use Rattle.bits.specs.Bits.{total, number}
 use Rattle.bits.specs.Lowest.{lowest, lowest_signed}
 use Rattle.bits.specs.Whole.{twos_complement}
-use Rattle.description.specs.Kinds.{byte, operand, row_of}
+use Rattle.description.specs.Inner.Children.{bind_named}
+use Rattle.description.specs.Kinds.{operand, row_of}
 use Rattle.description.specs.Limits.{most_bytes}
 use Rattle.description.specs.Nodes.{constant}
-use Rattle.description.specs.Places.{kind_of, field_of, operand_of, Placed}
-use Rattle.description.proofs.Standing.{begins, body_inside}
+use Rattle.description.specs.Places.{kind_of, operand_of, Known}
+use Rattle.description.proofs.Standing.{body_inside}
 use Rattle.description.proofs.places.Nodes.operand_of.Goals as goal
 
 -- a constant's five bytes begin at byte j of node's body
-module _ (d starts : List ℕ) (node j : ℕ) (p : Placed d starts node) (h : j + 5 ≤ (row_of (kind_of d node)).bytes) where
+module _ (d starts : List ℕ) (node j : ℕ) (p : Known d starts node) (h : j + 5 ≤ (row_of (kind_of d node)).bytes) where
   inside : get_or starts node 0 + 1 + j + 4 < length d
-  inside = omega (arith, begins d starts node p, body_inside d starts node p)
+  inside = omega (arith, p.begins, body_inside d starts node p)
 
-  within : get_or starts node 0 + 1 + j + 4 < 1024
+  within : length d ≤ most_bytes → get_or starts node 0 + 1 + j + 4 < 1024
   unfolding most_bytes
-  within = omega (arith, p.short, inside)
+  within short = omega (arith, inside)
 
   abbrev place : ℕ
   place = 8 * (get_or starts node 0 + 1 + j + 1)
@@ -39,21 +38,20 @@ module _ (d starts : List ℕ) (node j : ℕ) (p : Placed d starts node) (h : j 
   unfolding total lowest
   number_is = grind (arith, inside)
 
-  constant-is : field_of d node j ≡ 0 → constant value ≡ operand_of d node j
-  unfolding field_of operand_of operand
-  constant-is e = rw (begins d starts node p, eq-eqb (byte d _) 0 e)
+  constant-is : bind_named (operand_of d node j) ≡ None → constant value ≡ operand_of d node j
+  unfolding operand_of operand
+  constant-is e = rw p.begins (grind (arith, e))
 
 pub overflow_mul-i : goal.overflow_mul-i
-overflow_mul-i c = omega (arith, within _ _ _ _ (c.args.self.now.placed _ c.requires.node) c.requires.inside)
+overflow_mul-i c = omega (arith, within _ _ _ _ (c.args.self.now.known _ c.requires.node) c.requires.inside c.args.self.now.short)
 
-pub unreachable-requires : goal.unreachable-requires
-unreachable-requires c =
-    c.in_default.not-Ok _ (c.signed.ensures ∙ number_is _ _ _ _ (c.args.self.now.placed _ c.requires.node) c.requires.inside)
+pub unwrap-requires : goal.unwrap-requires
+unwrap-requires c =
+    rw (c.signed.ensures, number_is _ _ _ _ (c.args.self.now.known _ c.requires.node) c.requires.inside) refl
 
 pub returns : goal.returns
 returns c =
-    let z = c.in-Ok.z in
-    let p = c.args.self.now.placed _ c.requires.node in
-    let told : to_z w64 (of_z w64 z) ≡ z = search rules in
-    let is : z ≡ value _ _ _ _ p c.requires.inside = cc (c.in-Ok.is, c.signed.ensures, number_is _ _ _ _ p c.requires.inside) in
-    ap constant (told ∙ is) ∙ constant-is _ _ _ _ p c.requires.inside (sym c.field_of.ensures ∙ c.if-field_of-ne0.false)
+    let z = c.unwrap.result in
+    let p = c.args.self.now.known _ c.requires.node in
+    let is : z ≡ value _ _ _ _ p c.requires.inside = cc (c.unwrap.ensures, c.signed.ensures, number_is _ _ _ _ p c.requires.inside) in
+    ap constant (to_z-of_z (sfits_of {w = w64} c.unwrap.type_inv) ∙ is) ∙ constant-is _ _ _ _ p c.requires.inside (sym c.bind_of.ensures ∙ c.in_default.is)

@@ -1,5 +1,5 @@
 -- The k-th number lent is there, since the operand needs k + 1 of them.
-use Rattle.std.proofs.Common.{◌≡◌, ℕ, ◌+◌, ◌<◌, ◌≤◌, List, length, get_or, drop, ℤ, pos, sym, ap, ◌∙◌, arith, get_or-drop, w64, to_z, of_z, rules}
+use Rattle.std.proofs.Common.{◌≡◌, ℕ, ◌+◌, ◌<◌, ◌≤◌, List, length, get_or, drop, ℤ, pos, sym, ap, ◌∙◌, arith, get_or-drop, to_z-of_z, w64, rules}
 use Rattle.description.specs.Binds.{needs_of}
 use Rattle.description.specs.Nodes.{Operand, constant, bound}
 use Rattle.description.specs.Places.{meant, operand_of}
@@ -29,24 +29,14 @@ module _ (c : In-Bound) where
   inside : c.args.at.free + c.in-Bound.k < length c.args.lent.now
   inside = there c.args.lent.now _ _ _ is c.requires.free_in_bounds
 
-pub overflow_add-result : goal.overflow_add-result
-overflow_add-result c = omega (arith, inside (goal.at.overflow_add-result c).In-Bound)
-
-pub offset_bounds-lent-at : goal.offset_bounds-lent-at
-offset_bounds-lent-at c = omega (arith, inside (goal.at.offset_bounds-lent-at c).In-Bound)
-
 pub bounds-lent-at : goal.bounds-lent-at
 bounds-lent-at c = inside (goal.at.bounds-lent-at c).In-Bound
 
 pub returns-in-Constant : goal.returns-in-Constant
 returns-in-Constant c =
-    let z = c.in-Constant.z in
-    let told : to_z w64 (of_z w64 z) ≡ z = search rules in
-    told ∙ is-constant _ z _ (sym (ap meant c.in-Constant.is) ∙ c.operand_of.ensures)
+    to_z-of_z {w = w64} (search rules) ∙ is-constant _ _ _ (sym (ap meant c.in-Constant.is) ∙ c.operand_of.ensures)
 
 pub returns-in-Bound : goal.returns-in-Bound
 returns-in-Bound c =
     let a = c.args in
-    let z = get_or a.lent.now (a.at.free + c.in-Bound.k) (pos 0) in
-    let told : to_z w64 (of_z w64 z) ≡ z = search rules in
-    told ∙ is-lent a.lent.now a.at.free _ _ (is (goal.at.returns-in-Bound c).In-Bound)
+    to_z-of_z {w = w64} (search rules) ∙ is-lent a.lent.now a.at.free _ _ (is (goal.at.returns-in-Bound c).In-Bound)

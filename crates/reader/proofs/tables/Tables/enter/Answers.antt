@@ -1,6 +1,5 @@
 -- The four words of each table are those of the node's own entry, put in the place that was kept for it.
-use Rattle.std.proofs.Common.{rules, to_z, of_z, ◌≡◌, ℕ, suc, ◌≤◌, List, [], ◌∷◌, length, ℤ, ap, ◌∙◌, ap₂, arith, w64}
-use lib.Seq.{sets}
+use Rattle.std.proofs.Common.{rules, to_z-of_z, w64, ◌≡◌, ℕ, suc, ◌≤◌, List, [], ◌∷◌, ◌++◌, length, drop, ℤ, ap, ◌∙◌, ap₂, arith}
 use Rattle.bits.specs.Whole.{word}
 use Rattle.description.specs.Limits.{most_nodes}
 use Rattle.rules.specs.Entries.{Entry, reading}
@@ -36,8 +35,8 @@ module _ (own : Own) (room : ℕ) (place : Entry) (beneath : List Entry) (fit : 
       }
 
   entered : (number size : ℕ) → number ≡ word own.number → size ≡ counted (suc (length beneath))
-      → (4 ≤ length w.values → w'.values ≡ sets w.values 0 (own.node ∷ number ∷ own.detail ∷ size ∷ []))
-      → (4 ≤ length w.descriptors → w'.descriptors ≡ sets w.descriptors 0 (own.begin ∷ own.end ∷ own.code ∷ own.errors ∷ []))
+      → (4 ≤ length w.values → w'.values ≡ (own.node ∷ number ∷ own.detail ∷ size ∷ []) ++ drop 4 w.values)
+      → (4 ≤ length w.descriptors → w'.descriptors ≡ (own.begin ∷ own.end ∷ own.code ∷ own.errors ∷ []) ++ drop 4 w.descriptors)
       → Holds room (made own beneath).entries w'
   unfolding reading value_words descriptor_words
   entered number size en es values descriptors =
@@ -46,21 +45,21 @@ module _ (own : Own) (room : ℕ) (place : Entry) (beneath : List Entry) (fit : 
         few = h.few;
         values-are =
             values (omega (arith, whole_length value_size value_words values_laid room (place ∷ beneath) w.values h.values-are fit))
-            ∙ ap₂ (λ (a n : ℕ). sets w.values 0 (own.node ∷ a ∷ own.detail ∷ n ∷ [])) en exact
-            ∙ put-own value_size value_words values_laid room place own-entry beneath w.values fit h.values-are;
+            ∙ ap₂ (λ (a n : ℕ). own.node ∷ a ∷ own.detail ∷ n ∷ drop 4 w.values) en exact
+            ∙ put-own value_size value_words values_laid room place own-entry beneath w.values h.values-are;
         descriptors-are =
             descriptors (omega (arith, whole_length descriptor_size descriptor_words descriptors_laid room (place ∷ beneath) w.descriptors h.descriptors-are fit))
-            ∙ put-own descriptor_size descriptor_words descriptors_laid room place own-entry beneath w.descriptors fit h.descriptors-are;
+            ∙ put-own descriptor_size descriptor_words descriptors_laid room place own-entry beneath w.descriptors h.descriptors-are;
       }
 
 pub returns-clause-entered : goal.returns-clause-entered
 unfolding reading
 returns-clause-entered c =
     let own = c.args.own in
-    let told : to_z w64 (of_z w64 own.number) ≡ own.number = search rules in
+    let told = to_z-of_z {w = w64} {z = own.number} (search rules) in
     record {
       is = λ beneath e. ap₂ (answer own) told e;
       written = λ room place beneath e fit h.
           entered own room place beneath fit _ _ h _ _
-          (c.word_of.ensures ∙ ap word told) e c.put.ensures c.put-2.ensures;
+          (c.word_of-number.ensures ∙ ap word told) e c.put.ensures c.put-2.ensures;
     }

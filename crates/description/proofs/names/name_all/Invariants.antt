@@ -2,7 +2,7 @@ use Rattle.std.proofs.Common.{◌≡◌, false, drop}
 use Rattle.description.specs.Check.{some_not_smaller}
 use Rattle.description.specs.Inner.Names.{some_marked, marked}
 use Rattle.description.specs.Limits.{most_nodes}
-use Rattle.description.proofs.names.some_named_before.Given as goal
+use Rattle.description.proofs.names.name_all.Given as goal
 
 -- what is left, with the flags as they are, answers what the whole does
 abbrev pub invariant-loop-child : goal.invariant-loop-child

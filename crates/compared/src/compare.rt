@@ -36,7 +36,8 @@ impl<'a, R: Print> Tally<'a, R> {
         self.with_room(64, 64, reading);
     }
 
-    /// A reading with tables of so many words. A byte counts them, so that none can be asked for that are not there.
+    /// A reading with tables of so many words: two numbers, which differ in some readings. A byte counts them, so that none can be asked for that are not
+    /// there.
     pub fn with_room(&mut self, values: u8, descriptors: u8, reading: Reading) {
         let values = &mut [RUBBISH; u8::MAX as usize][..usize::from(values)];
         let descriptors = &mut [RUBBISH; u8::MAX as usize][..usize::from(descriptors)];

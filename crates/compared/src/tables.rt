@@ -1,4 +1,4 @@
-// Tables of every length, and the limits.
+// Short tables, tables of two lengths, and the limits: 01's numbers themselves, and not the reader's constants, which are tried.
 use crate::compare::{Reading, Tally};
 use crate::records::{COUNTERS, TEN_USED};
 

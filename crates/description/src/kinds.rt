@@ -144,7 +144,7 @@ pub enum Operator {
     Subtract,
 }
 
-/// A byte that is not listed: as a relation, or as an operator.
+/// A byte that is not listed: as a relation, or as an operator. Not `UnknownKind`: 01 refuses that with 2, and this with 5.
 #[derive(Clone, Copy, PartialEq, Eq, Debug)]
 pub struct NotListed;
 

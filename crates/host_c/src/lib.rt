@@ -1,4 +1,5 @@
-// The static library: what host/rippleshrug.h declares for C, each a call of the function of that name in the crate `host`, with its clauses.
+// The static library: what host/rippleshrug.h declares for C, each a call of the function of that name in the crate `host`, with its clauses. A crate is a
+// library or a static library, and not both, and `contracts` speaks of `host`.
 #![tactic(auto)]
 
 ghost use Rattle.std.specs.Prelude.{◌≡◌, length};

@@ -62,6 +62,7 @@ impl Tables<'_> {
         let number = numbers::word_of(own.number);
         put(self.values, [own.node as u32, number, own.detail, size]);
         put(self.descriptors, [own.begin, own.end, own.code, own.errors]);
+        // Field by field: an `Own` with a `Reading` in it would be no plainer, since what makes an `Own` does not know its size.
         Reading {
             end: own.end,
             errors: own.errors,
@@ -82,7 +83,7 @@ fn forget(table: &mut [u32], words: usize, k: u32, n: u32)
     table[from..to].fill(0);
 }
 
-// An entry's words at the front of a table, if there is room for them.
+// An entry's words at the front of a table, if there is room for them: of either table, as long as both have four words to an entry.
 fn put(table: &mut [u32], entry: [u32; 4])
     ensures { 4 ≤ length table.old → table.new ≡ entry ++ drop 4 table.old }
 {

@@ -36,6 +36,7 @@ impl Text<'_> {
         }
     }
 
+    // Byte by byte: what has no room is left out, and a copy of the part that has room would first ask how long that is, and whether `next` is past the end.
     fn word(&mut self, letters: &[u8])
         ensures { Puts self.old self.new letters.now (length letters.now) }
     {

@@ -1,4 +1,4 @@
-// Writing records back as definitions, with their laws and the round trip: specs/ and proofs/. The code here is what an answer can be.
+// Writing records back as definitions, with their laws and the round trip: specs/ and proofs/. The code here is what a field and what an answer can be.
 #![tactic(auto)]
 
 ghost use Rattle.std.specs.Prelude.{◌≡◌};
@@ -6,7 +6,7 @@ ghost use Rattle.writing.specs.declared.Refused.TheVariants.{BadDescription};
 
 use description::Refusal;
 
-/// What a node of a description is to the writer.
+/// What a node of a description is to the writer. The definitions speak of it, and it is what the writer's `Stored` stands for.
 #[derive(Clone, Copy, PartialEq, Eq, Debug)]
 pub enum Field {
     /// Nothing of it is stored: its entries are passed over.

@@ -12,7 +12,7 @@ use Rattle.reader.specs.declared.readings.Rounds.{Rounds}
 use Rattle.reader.proofs.Done.{done-count, done-total, done_else}
 use Rattle.reader.proofs.Ends.{either_first, either_second, pair_end, sequence-end, where_end, where_node}
 use borrow.Author.Rules.{sfits_of}
-use Rattle.reader.proofs.Sides.{first_below, lendable, lent_as, second-inside, second_below}
+use Rattle.reader.proofs.Sides.{first_below, lendable, second-inside, second_below}
 use Rattle.reader.proofs.ByKind.{own-node}
 use Rattle.reader.proofs.OneRound.{round-first, round-next}
 use Rattle.reader.proofs.Rounds.{grown-one}
@@ -114,8 +114,7 @@ nodes::Reader::pair-part-b-requires t c =
 pub nodes::Reader::pair-returns-clause-reads : goal.nodes::Reader::pair-returns-clause-reads
 nodes::Reader::pair-returns-clause-reads t c =
     let v = c.requires.0 in
-    let lent = lent_as _ _ _ _ _ _ _ _ (to_z-of_z {w = w64} {z = c.part-a.result.number} (search rules)) c.lend-free.ensures in
-    pair_end _ _ _ _ v.some-node _ _ _ _ _ _ c.requires.1 c.requires.2 v.inside _ _ _ _ _ _ _ _ _ _ c.part-a.ensures.reads lent c.second_at-begin.ensures
+    pair_end _ _ _ _ v.some-node _ _ _ _ _ _ c.requires.1 c.requires.2 v.inside _ _ _ _ _ _ _ _ _ _ c.part-a.ensures.reads c.lend-free.ensures c.second_at-begin.ensures
     c.together-k.ensures c.part-b.ensures.reads c.two_sides-own.ensures c.together.ensures c.enter.ensures.entered
 
 -- A node that is read into both tables from an entry on.

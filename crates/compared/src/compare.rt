@@ -23,6 +23,7 @@ pub struct Tally<'a, R> {
 const RUBBISH: u32 = 0xDEAD_BEEF;
 
 impl<'a, R: Print> Tally<'a, R> {
+    /// No reading was run yet.
     pub fn new(rt: &'a R) -> Tally<'a, R> {
         Tally {
             rt,

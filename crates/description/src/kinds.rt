@@ -99,8 +99,10 @@ pub struct Body {
     pub children: usize,
 }
 
-/// Three functions that promise an answer of any byte, also of one that says no kind, which the methods of `Kind` do not: its body, how many children
-/// that begins with, and whether it is of a number node. Whoever has a byte alone calls them.
+// Three functions that promise an answer of any byte, also of one that says no kind, which the methods of `Kind` do not. Whoever has a byte alone calls
+// them.
+
+/// The body that a byte says, none where it says no kind.
 #[tactic(auto, using(crate::proofs::Bodies::byte_below, crate::proofs::Bodies::body_known), unfolding(crate::specs::Bodies::body_of, crate::specs::Kinds::kinds))]
 pub fn body_of(byte: u8) -> Option<Body>
     ensures { result ≡ body_of byte }
@@ -112,6 +114,7 @@ pub fn body_of(byte: u8) -> Option<Body>
     })
 }
 
+/// How many children the body that a byte says begins with, 0 where it says no kind.
 #[tactic(auto, using(crate::proofs::Bodies::no_children), unfolding(crate::specs::Kinds::kinds))]
 pub fn children_of(byte: u8) -> usize
     ensures { result ≡ child_count byte }
@@ -119,6 +122,7 @@ pub fn children_of(byte: u8) -> usize
     Kind::try_from(byte).map_or(0, |kind| kind.children())
 }
 
+/// Whether a byte says a number node.
 #[tactic(auto, unfolding(crate::specs::Bodies::is_number_kind, crate::specs::Kinds::kinds))]
 pub fn is_number(byte: u8) -> bool
     ensures { result ≡ is_number_kind byte }

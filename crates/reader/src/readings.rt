@@ -6,12 +6,16 @@ ghost use Rattle.reader.specs.Inner.Readings.{counted};
 
 use crate::tables::MOST_ENTRIES;
 
-/// "a code: 0 ok, 1 err, 2 fail". Numbers and no enum: tried and proved, but its one byte made a reading take a tenth longer, as
-/// long as with the interpreter written for Rust, and the stack grow.
+// "a code: 0 ok, 1 err, 2 fail". Numbers and no enum: tried and proved, but its one byte made a reading take a tenth longer, as
+// long as with the interpreter written for Rust, and the stack grow.
+
+/// "0 ok"
 pub const OK: u32 = 0;
 
+/// "1 err"
 pub const ERR: u32 = 1;
 
+/// "2 fail"
 pub const FAIL: u32 = 2;
 
 // No table has room for as many entries: a count stops here.

@@ -7,9 +7,12 @@ ghost use Rattle.reader.specs.Inner.Windows.{value_size, descriptor_size, words_
 use crate::numbers;
 use crate::readings::{Own, Reading};
 
-/// Words to an entry, of each table: the same number of two things.
+// Words to an entry, of each table: the same number of two things.
+
+/// "A value entry has four 32-bit words: node number, number (low 32 bits), detail, size".
 pub const VALUE_WORDS: usize = 4;
 
+/// "A descriptor entry has begin, end, code, errors."
 pub const DESCRIPTOR_WORDS: usize = 4;
 
 /// "never above 65,535"

@@ -91,6 +91,7 @@ impl Text<'_> {
         );
     }
 
+    /// "short input"
     pub fn short_input(&mut self)
         ensures { Puts self.old self.new short_input_line 30 }
     {

@@ -67,6 +67,7 @@ impl Stored {
         }
     }
 
+    /// How many bits a field has, 0 where nothing of it is stored.
     #[tactic(auto, using(crate::proofs::Looked::with_none))]
     pub fn width(self) -> u32
         ensures value { result ≡ width_of self }

@@ -1,6 +1,5 @@
 // One reading, with what was expected of it.
 use reader::{DESCRIPTOR_WORDS, VALUE_WORDS};
-use std::io;
 
 /// What is read with what description, and what is to be printed of it.
 #[derive(Clone, Copy)]
@@ -49,23 +48,28 @@ impl<'a, R: Print> Tally<'a, R> {
         let count = answer.map_or(0, |success| success.count) as usize;
         let is_clear = is_clear_from(values, VALUE_WORDS * count)
             && is_clear_from(descriptors, DESCRIPTOR_WORDS * count);
-        // Where a write fails, nothing is told of it.
-        let _ = self.show(reading, found, is_clear);
+        self.show(reading, found, is_clear);
         self.readings = self.readings.saturating_add(1);
         if is_clear && found == reading.expected.as_bytes() {
             self.same = self.same.saturating_add(1);
         }
     }
 
-    fn show(&self, reading: Reading, found: &[u8], is_clear: bool) -> io::Result<()> {
-        let Reading { name, expected, .. } = reading;
-        print!(self.rt; "{name}\nexpected\n{expected}found\n")?;
-        self.rt.write_all(found)?;
-        println!(self.rt; "")?;
+    // Piece by piece: where a write fails, nothing is told of it, and what comes after it is still written.
+    fn show(&self, reading: Reading, found: &[u8], is_clear: bool) {
+        self.put(reading.name.as_bytes());
+        self.put(b"\nexpected\n");
+        self.put(reading.expected.as_bytes());
+        self.put(b"found\n");
+        self.put(found);
+        self.put(b"\n");
         if !is_clear {
-            println!(self.rt; "and words after the last entry that are not 0")?;
+            self.put(b"and words after the last entry that are not 0\n");
         }
-        Ok(())
+    }
+
+    fn put(&self, bytes: &[u8]) {
+        let _ = self.rt.write_all(bytes);
     }
 
     /// The last line.

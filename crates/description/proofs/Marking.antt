@@ -7,7 +7,7 @@ use mathlib.Core.Path.{◌≡◌, refl, sym, ap, ap₂, ◌∙◌}
 use native.Mathlib.Nat.{add-zero}
 use native.Mathlib.Omega.{arith}
 use lib.Dec.{eqb}
-use lib.ListN.{length, take, get_or, set, length-set, replicate, length-replicate, get_or-replicate}
+use lib.ListN.{length, take, drop, get_or, set, length-set, replicate, length-replicate, get_or-replicate}
 use Rattle.std.specs.Prelude.{Some, None, cond, not, position}
 use Rattle.std.specs.Prelude as std
 use Rattle.std.specs.List.{position_from}
@@ -86,10 +86,15 @@ search-from (f ∷ flags) names i h =
     search-step f names i (length flags) _ (rw add-zero at (h 0 (omega arith)))
     (search-from flags names (i + 1) (λ k l. let e : i + suc k ≡ i + 1 + k = omega arith in h (suc k) (omega arith) ∙ ap (λ (p : ℕ). is_in p names) e))
 
+-- The lowest of so many nodes from i on that is not named, by the flags; and of all below n.
+pub unmarked-from : (flags : List Bool) (names : List ℕ) (i left : ℕ) → Marks flags names → i + left ≤ most_nodes
+    → never_named names i left ≡ refusal_of (position_from not i (take left (drop i flags)))
+unmarked-from flags names i left m h =
+    let few : length (take left (drop i flags)) ≡ left = grind (arith, common_steps, m.all) in
+    ap (never_named names i) (sym few)
+    ∙ search-from (take left (drop i flags)) names i (λ k l. grind (arith, common_steps, m.at (i + k) (omega (arith, few, l))))
+
 pub unmarked-unnamed : (flags : List Bool) (names : List ℕ) (n : ℕ) → Marks flags names → n ≤ most_nodes
     → never_named names 0 n ≡ refusal_of (position not (take n flags))
 unmarked-unnamed flags names n m h =
-    let few : length (take n flags) ≡ n = grind (arith, common_steps, m.all) in
-    ap (never_named names 0) (sym few)
-    ∙ search-from (take n flags) names 0 (λ k l. grind (arith, common_steps, m.at k (omega (arith, few, l))))
-    ∙ ap refusal_of (sym (position_from-zero not (take n flags)))
+    unmarked-from flags names 0 n m (omega arith) ∙ ap refusal_of (sym (position_from-zero not (take n flags)))

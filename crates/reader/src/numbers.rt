@@ -1,5 +1,5 @@
 // Whole numbers and their words: the low 32 bits, relations, and what a compute gives.
-ghost use Rattle.std.specs.Prelude.{◌≡◌, ◌≤◌, pos};
+ghost use Rattle.std.specs.Prelude.{◌≡◌, ◌+◌, ◌%◌, ◌^◌, ◌≤◌, pos};
 ghost use Rattle.bits.specs.Whole.{modulo, word};
 ghost use Rattle.description.specs.Bodies.{relation_meant, operator_meant};
 ghost use Rattle.rules.specs.Numbers.{holds, result as result_of};
@@ -37,11 +37,16 @@ pub fn computed(w: u8, operator: Operator, a: i64, b: i64) -> i64
     requires { w ≤ 32 }
     ensures { result ≡ pos (modulo w (result_of (operator_meant operator) a b)) }
 {
-    // the low 32 bits of a sum or a difference are those of its terms' low 32 bits
-    let (x, y) = (word_of(a), word_of(b));
-    let all = match operator {
+    (u64::from(on_words(operator, word_of(a), word_of(b))) % (1 << w)) as i64
+}
+
+// "a + b or a - b" on the numbers' words, past either end of 32 bits: the low 32 bits of a sum or a difference are those of its terms' low 32 bits.
+fn on_words(operator: Operator, x: u32, y: u32) -> u32
+    ensures less { operator ≡ Operator.Subtract → (result + y) % 2 ^ 32 ≡ x }
+    ensures more { operator ≡ Operator.Add → result ≡ (x + y) % 2 ^ 32 }
+{
+    match operator {
         Operator::Add => x.wrapping_add(y),
         Operator::Subtract => x.wrapping_sub(y),
-    };
-    (u64::from(all) % (1 << w)) as i64
+    }
 }

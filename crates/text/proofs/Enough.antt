@@ -27,22 +27,22 @@ listed-same : (n : ℕ) (one other : List ℕ) → 1024 ≤ length one → 1024 
 unfolding listed most_bytes
 listed-same n one other h g same = grind (arith, nat_tests)
 
-module _ (n : ℕ) (bytes : List ℕ) where
-  cut : 9216 < length bytes → listed n (take 9216 bytes) ≡ listed n bytes
-  unfolding most_input
+module _ (n : ℕ) (bytes : List ℕ) (most : ℕ) (room : most_bytes + most_input < most) where
+  cut : most < length bytes → listed n (take most bytes) ≡ listed n bytes
+  unfolding most_bytes most_input
   cut long =
-      let front : length (take 9216 bytes) ≡ 9216 = omega (arith, length-take 9216 bytes) in
-      listed-same n (take 9216 bytes) bytes (omega arith) (omega arith)
+      let front : length (take most bytes) ≡ most = omega (arith, length-take most bytes) in
+      listed-same n (take most bytes) bytes (omega (arith, room)) (omega (arith, room))
       (λ few.
-      ap (λ (desc : List ℕ). outcome table_words table_words desc (drop n (take 9216 bytes))) (take-take n 9216 bytes (omega arith))
-      ∙ too_long table_words table_words (take n bytes) (drop n (take 9216 bytes)) (drop n bytes)
-      (omega (arith, length-drop n (take 9216 bytes))) (omega (arith, length-drop n bytes)))
+      ap (λ (desc : List ℕ). outcome table_words table_words desc (drop n (take most bytes))) (take-take n most bytes (omega (arith, room)))
+      ∙ too_long table_words table_words (take n bytes) (drop n (take most bytes)) (drop n bytes)
+      (omega (arith, room, length-drop n (take most bytes))) (omega (arith, room, length-drop n bytes)))
 
-  listed-enough : listed n (take 9216 bytes) ≡ listed n bytes
-  listed-enough = elim (cases_lt 9216 (length bytes)) [ inl more ↦ cut more | inr all ↦ ap (listed n) (take_all 9216 bytes all) ]
+  listed-enough : listed n (take most bytes) ≡ listed n bytes
+  listed-enough = elim (cases_lt most (length bytes)) [ inl more ↦ cut more | inr all ↦ ap (listed n) (take_all most bytes all) ]
 
 pub enough : (bytes : List ℕ) → listing (take 9218 bytes) ≡ listing bytes
-unfolding listing
+unfolding listing most_bytes most_input
 enough [] = refl
 enough (high ∷ []) = refl
-enough (high ∷ low ∷ bytes) = listed-enough (256 * high + low) bytes
+enough (high ∷ low ∷ bytes) = listed-enough (256 * high + low) bytes 9216 (omega arith)

@@ -50,6 +50,10 @@ impl Text<'_> {
     fn number(&mut self, n: u32)
         ensures { Puts self.old self.new (decimal n) 10 }
     {
+        // Most numbers of a listing have one digit, which is put without a buffer to write it in.
+        if n < 10 {
+            return self.byte(b'0' + n as u8);
+        }
         self.word(Buffer::new().format(n).as_bytes());
     }
 

@@ -36,7 +36,7 @@ held_more acc n held w small h =
     (sym (width_same w (hi * 2 ^ w + n)) ∙ ap (in_width w) (low hi w small))
 
 -- Byte k of a number, by a shift.
-byte-shifted : (k n : ℕ) → n / 2 ^ (8 * k) % 256 ≡ byte_at k n
+pub byte-shifted : (k n : ℕ) → n / 2 ^ (8 * k) % 256 ≡ byte_at k n
 byte-shifted zero n = omega arith
 byte-shifted (suc k) n = ap (λ (m : ℕ). n / m % 256) (eights (suc k))
   where
@@ -63,6 +63,13 @@ packed-bytes (suc k) n r acc more =
 bytes-length : (k n : ℕ) → length (bytes_high_first k n) ≡ k
 bytes-length zero n = refl
 bytes-length (suc k) n = ap suc (bytes-length k n)
+
+-- One byte more of a number, of which k are still to come.
+pub bytes-more : (i k n : ℕ) → take (suc i) (bytes_high_first (suc (i + k)) n) ≡ take i (bytes_high_first (suc (i + k)) n) ++ byte_at k n ∷ []
+bytes-more zero k n = ap (λ (j : ℕ). byte_at j n ∷ []) (zero-add k)
+bytes-more (suc i) k n =
+    let less : suc i + k ≡ suc (i + k) = suc-add i k in
+    ap₂ ◌∷◌ refl (ap (λ (j : ℕ). take (suc i) (bytes_high_first j n)) less ∙ bytes-more i k n ∙ ap (λ (j : ℕ). take i (bytes_high_first j n) ++ byte_at k n ∷ []) (sym less))
 
 put-length : (at k n : ℕ) (buffer : List ℕ) → at + k ≤ length buffer → length (put_mid at k buffer (bytes_high_first k n)) ≡ length buffer
 put-length at k n buffer fits = same_len_mid at k buffer (bytes_high_first k n) (omega (arith, bytes-length k n, length-take {A = ℕ}, length-drop {A = ℕ}))

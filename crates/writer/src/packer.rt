@@ -112,11 +112,14 @@ fn store_word(buffer: &mut [u8], at: usize, word: u64)
     buffer[at..at + 4].copy_from_slice(&low.to_be_bytes());
 }
 
-// As many of a word's low bytes as there is room for, the most significant first.
+// As many of a word's low bytes as there is room for, the most significant first. Byte by byte: a copy of so many calls `memcpy`, which a host in C, that
+// links the library alone, need not have.
 fn store(bytes: &mut [u8], word: u64)
     requires { length bytes.old ≤ 8 }
     ensures { bytes.new ≡ bytes_high_first (length bytes.old) word }
 {
-    let all = word.to_be_bytes();
-    bytes.copy_from_slice(&all[8 - bytes.len()..]);
+    let n = bytes.len().min(8);
+    for i in 0..n {
+        bytes[i] = ((word >> (8 * (n - 1 - i))) % 256) as u8;
+    }
 }

@@ -1,39 +1,64 @@
 -- What putting bits into a buffer keeps.
 use Rattle.std.proofs.Common.{◌≡◌, ℕ, zero, suc, ◌+◌, ◌-◌, ◌*◌, ◌/◌, ◌%◌, ◌^◌, ◌<◌, ◌≤◌, List, [], ◌∷◌, ◌++◌, length, take, drop, replicate, sym, refl, ap, ◌∙◌, subst, ap₂, append_assoc, append-nil, add-zero, arith, length-append, length-take, length-drop, drop_of_length-le, pow_pos, pow-add, shr-shr, zero-add, suc-add}
-use native.Mathlib.Nat.{sub-zero, pow-suc, zero-div, zero-mul}
+use native.Mathlib.Nat.{sub-zero, pow-suc, zero-div, zero-mul, mul_assoc, add-mul}
 use borrow.Rule.Slice.PartMut.{put_mid, same_len_mid}
-use lib.Bits.{bit_or, or_shifted, or_zero_r}
+use lib.Bits.{bit_or, or_shifted}
 use lib.Seq.{drop-nil}
-use lib.Pow.{mod-pow-add, shl-shr, high, low}
+use lib.Pow.{mod-pow-add, split, shl_lt, shl_exact, shl-shr, high, low}
 use Rattle.std.proofs.lemmas.Slice.{take-put_mid}
 use Rattle.std.specs.Int.{byte_at, bytes_high_first}
 use Rattle.writing.specs.Bits.{in_width, value, packed}
-use Rattle.writing.proofs.Widths.{width_length, width_low, width_same, width_split, packed_none, packed_byte}
+use Rattle.writing.proofs.Widths.{width_length, width_same, width_split, packed_none, packed_byte}
 use Rattle.writer.specs.Inner.Packing.{Stands}
+
+-- Below a number that is moved up all is 0.
+pub clear-low : (b f : ℕ) → (b * 2 ^ f) % 2 ^ f ≡ 0
+clear-low b f = ap (λ (m : ℕ). m % 2 ^ f) (sym (add-zero (b * 2 ^ f))) ∙ low b f (pow_pos f)
 
 -- A number that is moved up keeps what is not moved out.
 moved-low : (a j w : ℕ) → (a * 2 ^ w) % 2 ^ (j + w) ≡ a % 2 ^ j * 2 ^ w
 moved-low a j w =
-    let none : (a * 2 ^ w) % 2 ^ w ≡ 0 = ap (λ (m : ℕ). m % 2 ^ w) (sym (add-zero (a * 2 ^ w))) ∙ low a w (pow_pos w) in
+    let none : (a * 2 ^ w) % 2 ^ w ≡ 0 = clear-low a w in
     mod-pow-add (a * 2 ^ w) j w
     ∙ ap (λ (m : ℕ). (a * 2 ^ w / 2 ^ w % 2 ^ j) * 2 ^ w + m) none
     ∙ add-zero _
     ∙ ap (λ (m : ℕ). m % 2 ^ j * 2 ^ w) (shl-shr a w)
 
 -- The bits of a number behind those that are held.
-held_more : (acc n held w : ℕ) → n < 2 ^ w → held + w ≤ 64 → in_width (held + w) (bit_or ((acc * 2 ^ w) % 2 ^ 64) n) ≡ in_width held acc ++ in_width w n
-held_more acc n held w small h =
-    let j = 64 - w in
-    let hi = acc % 2 ^ j in
-    let all : 64 ≡ j + w = omega arith in
-    let room : j ≡ held + (j - held) = omega arith in
-    let same : bit_or ((acc * 2 ^ w) % 2 ^ 64) n ≡ hi * 2 ^ w + n =
-    ap (λ (m : ℕ). bit_or m n) (ap (λ (k : ℕ). (acc * 2 ^ w) % 2 ^ k) all ∙ moved-low acc j w) ∙ or_shifted hi w n small in
-    ap (in_width (held + w)) same
-    ∙ width_split held w (hi * 2 ^ w + n)
-    ∙ ap₂ ◌++◌
-    (ap (in_width held) (high hi w small) ∙ ap (λ (k : ℕ). in_width held (acc % 2 ^ k)) room ∙ width_low held (j - held) acc)
-    (sym (width_same w (hi * 2 ^ w + n)) ∙ ap (in_width w) (low hi w small))
+held-more : (a n held w : ℕ) → n < 2 ^ w → in_width (held + w) (a * 2 ^ w + n) ≡ in_width held a ++ in_width w n
+held-more a n held w small =
+    width_split held w (a * 2 ^ w + n)
+    ∙ ap₂ ◌++◌ (ap (in_width held) (high a w small)) (sym (width_same w (a * 2 ^ w + n)) ∙ ap (in_width w) (low a w small))
+
+-- Where those that are held stand above so many places that are 0, and the number takes w of these.
+pub joined : (acc n free w : ℕ) → acc % 2 ^ free ≡ 0 → n < 2 ^ w → w ≤ free → free ≤ 64
+    → bit_or acc ((n * 2 ^ (free - w)) % 2 ^ 64) ≡ (acc / 2 ^ free * 2 ^ w + n) * 2 ^ (free - w)
+joined acc n free w clear small fits most =
+    let a = acc / 2 ^ free in
+    let f = free - w in
+    let all : w + f ≡ free = omega arith in
+    let whole : acc ≡ a * 2 ^ free = sym (split acc free) ∙ ap (λ (m : ℕ). a * 2 ^ free + m) clear ∙ add-zero (a * 2 ^ free) in
+    let below : n * 2 ^ f < 2 ^ free = subst (λ (k : ℕ). n * 2 ^ f < 2 ^ k) all (shl_lt w f small) in
+    let apart : 2 ^ free ≡ 2 ^ w * 2 ^ f = ap (λ (k : ℕ). 2 ^ k) (sym all) ∙ pow-add 2 w f in
+    ap (bit_or acc) (shl_exact w f 64 small (omega (arith, all, most)))
+    ∙ ap (λ (m : ℕ). bit_or m (n * 2 ^ f)) whole
+    ∙ or_shifted a free (n * 2 ^ f) below
+    ∙ ap (λ (m : ℕ). a * m + n * 2 ^ f) apart
+    ∙ ap (λ (m : ℕ). m + n * 2 ^ f) (sym (mul_assoc a (2 ^ w) (2 ^ f)))
+    ∙ sym (add-mul (a * 2 ^ w) n (2 ^ f))
+
+-- The highest 32 bits, and what is left of the others once these are moved out.
+pub top : (b f : ℕ) → f ≤ 32 → b * 2 ^ f / 2 ^ 32 ≡ b / 2 ^ (32 - f)
+top b f h =
+    let all : f + (32 - f) ≡ 32 = omega arith in
+    ap (λ (k : ℕ). b * 2 ^ f / 2 ^ k) (sym all) ∙ sym (shr-shr (b * 2 ^ f) f (32 - f)) ∙ ap (λ (m : ℕ). m / 2 ^ (32 - f)) (shl-shr b f)
+
+pub moved-out : (b f : ℕ) → f ≤ 32 → (b * 2 ^ f * 2 ^ 32) % 2 ^ 64 ≡ b % 2 ^ (32 - f) * 2 ^ (f + 32)
+moved-out b f h =
+    let all : 64 ≡ 32 - f + (f + 32) = omega arith in
+    ap (λ (m : ℕ). m % 2 ^ 64) (mul_assoc b (2 ^ f) (2 ^ 32) ∙ ap (λ (m : ℕ). b * m) (sym (pow-add 2 f 32)))
+    ∙ ap (λ (k : ℕ). (b * 2 ^ (f + 32)) % 2 ^ k) all
+    ∙ moved-low b (32 - f) (f + 32)
 
 -- Byte k of a number, by a shift.
 pub byte-shifted : (k n : ℕ) → n / 2 ^ (8 * k) % 256 ≡ byte_at k n
@@ -92,9 +117,8 @@ packs_none acc buffer =
 
 module _ (row : List ℕ) (at acc : ℕ) (buffer : List ℕ) where
   -- A number is put behind the bits that are held.
-  pub packs_more : (held w n : ℕ) → n < 2 ^ w → held + w ≤ 64 → Stands row at held acc buffer
-      → Stands (row ++ in_width w n) at (held + w) (bit_or ((acc * 2 ^ w) % 2 ^ 64) n) buffer
-  packs_more held w n small fits p =
+  pub packs_more : (held w n : ℕ) → n < 2 ^ w → Stands row at held acc buffer → Stands (row ++ in_width w n) at (held + w) (acc * 2 ^ w + n) buffer
+  packs_more held w n small p =
       record {
         long = length-append row (in_width w n) ∙ omega (arith, p.long, width_length w n);
         kept =
@@ -102,7 +126,15 @@ module _ (row : List ℕ) (at acc : ℕ) (buffer : List ℕ) where
             ap (packed (length buffer)) (append_assoc row (in_width w n) more)
             ∙ p.kept h (in_width w n ++ more)
             ∙ ap (λ (l : List ℕ). take at buffer ++ packed (length buffer - at) l)
-            (sym (append_assoc (in_width held acc) (in_width w n) more) ∙ ap (λ (l : List ℕ). l ++ more) (sym (held_more acc n held w small fits)));
+            (sym (append_assoc (in_width held acc) (in_width w n) more) ∙ ap (λ (l : List ℕ). l ++ more) (sym (held-more acc n held w small)));
+      }
+
+  -- Of what is not held nothing counts.
+  pub packs_low : (held : ℕ) → Stands row at held acc buffer → Stands row at held (acc % 2 ^ held) buffer
+  packs_low held p =
+      record {
+        long = p.long;
+        kept = λ h more. p.kept h more ∙ ap (λ (l : List ℕ). take at buffer ++ packed (length buffer - at) (l ++ more)) (sym (width_same held acc));
       }
 
   -- The first k bytes of the bits that are held are stored.
@@ -181,20 +213,33 @@ packed-padded (suc n) row z =
 
 -- The bits that are held are stored, in front of zero bits, and then all bytes from one place on are cleared, which is where they end.
 pub packs_padded : (row : List ℕ) (at held acc : ℕ) (buffer after rest : List ℕ) (k from : ℕ)
-    → held ≤ 8 * k → k ≤ 8 → at + k ≤ length buffer → Stands row at held acc buffer
-    → after ≡ put_mid at k buffer (bytes_high_first k ((acc * 2 ^ (8 * k - held)) % 2 ^ 64)) → from ≡ at + k → rest ≡ replicate (length rest) 0
+    → held ≤ 8 * k → at + k ≤ length buffer → Stands row at held acc buffer
+    → after ≡ put_mid at k buffer (bytes_high_first k (acc * 2 ^ (8 * k - held))) → from ≡ at + k → rest ≡ replicate (length rest) 0
     → length rest ≡ length (take (length after - from) (drop from after)) → put_mid from (length after - from) after rest ≡ packed (length buffer) row
-packs_padded row at held acc buffer after rest k from few narrow fits p is end zeros many =
+packs_padded row at held acc buffer after rest k from few fits p is end zeros many =
     let z = 8 * k - held in
     let padded = row ++ in_width z 0 in
-    let moved = (acc * 2 ^ z) % 2 ^ 64 in
-    let same : bit_or moved 0 ≡ moved = or_zero_r moved in
+    let moved = acc * 2 ^ z in
+    let same : moved + 0 ≡ moved = add-zero moved in
     let all : held + z ≡ 8 * k + 0 = omega arith in
     let whole : moved / 2 ^ 0 ≡ moved = omega arith in
-    let more : Stands padded at (8 * k + 0) moved buffer = rw (← all, ← same) (packs_more row at acc buffer held z 0 (pow_pos z) (omega arith) p) in
+    let more : Stands padded at (8 * k + 0) moved buffer = rw (← all, ← same) (packs_more row at acc buffer held z 0 (pow_pos z) p) in
     let stored : Stands padded (at + k) 0 moved after =
     rw is (subst (λ (m : ℕ). Stands padded (at + k) 0 moved (put_mid at k buffer (bytes_high_first k m))) whole (packs_bytes padded at moved buffer k 0 fits more)) in
     let long : length after ≡ length buffer = ap (length {A = ℕ}) is ∙ put-length at k moved buffer fits in
     packs_all padded (at + k) moved after rest from (omega (arith, long)) stored end zeros many
     ∙ ap (λ (n : ℕ). packed n padded) long
     ∙ packed-padded (length buffer) row z
+
+-- The last bytes, of bits that are the highest of a word.
+pub last : (acc free k : ℕ) → acc % 2 ^ free ≡ 0 → free ≤ 64 → 64 - free ≤ 8 * k → 8 * k ≤ 32
+    → acc / 2 ^ 32 / 2 ^ (32 - 8 * k) ≡ acc / 2 ^ free * 2 ^ (8 * k - (64 - free))
+last acc free k clear most few small =
+    let a = acc / 2 ^ free in
+    let z = 8 * k - (64 - free) in
+    let j = 32 + (32 - 8 * k) in
+    let all : free ≡ z + j = omega arith in
+    let whole : acc ≡ a * 2 ^ free = sym (split acc free) ∙ ap (λ (m : ℕ). a * 2 ^ free + m) clear ∙ add-zero (a * 2 ^ free) in
+    shr-shr acc 32 (32 - 8 * k)
+    ∙ ap (λ (m : ℕ). m / 2 ^ j) (whole ∙ ap (λ (m : ℕ). a * 2 ^ m) all ∙ ap (λ (m : ℕ). a * m) (pow-add 2 z j) ∙ sym (mul_assoc a (2 ^ z) (2 ^ j)))
+    ∙ shl-shr (a * 2 ^ z) j

@@ -1,5 +1,6 @@
 -- What putting bits into a buffer keeps.
 use Rattle.std.proofs.Common.{◌≡◌, ℕ, zero, suc, ◌+◌, ◌-◌, ◌*◌, ◌/◌, ◌%◌, ◌^◌, ◌<◌, ◌≤◌, List, [], ◌∷◌, ◌++◌, length, take, drop, replicate, sym, refl, ap, ◌∙◌, subst, ap₂, append_assoc, append-nil, add-zero, arith, length-append, length-take, length-drop, drop_of_length-le, pow_pos, pow-add, shr-shr, zero-add, suc-add}
+use Rattle.std.proofs.Math.Nat.{mul-mod_left}
 use native.Mathlib.Nat.{sub-zero, pow-suc, zero-div, zero-mul, mul_assoc, add-mul}
 use borrow.Rule.Slice.PartMut.{put_mid, same_len_mid}
 use lib.Bits.{bit_or, or_shifted}
@@ -11,14 +12,10 @@ use Rattle.writing.specs.Bits.{in_width, value, packed}
 use Rattle.writing.proofs.Widths.{width_length, width_same, width_split, packed_none, packed_byte}
 use Rattle.writer.specs.Inner.Packing.{Stands}
 
--- Below a number that is moved up all is 0.
-pub clear-low : (b f : ℕ) → (b * 2 ^ f) % 2 ^ f ≡ 0
-clear-low b f = ap (λ (m : ℕ). m % 2 ^ f) (sym (add-zero (b * 2 ^ f))) ∙ low b f (pow_pos f)
-
 -- A number that is moved up keeps what is not moved out.
 moved-low : (a j w : ℕ) → (a * 2 ^ w) % 2 ^ (j + w) ≡ a % 2 ^ j * 2 ^ w
 moved-low a j w =
-    let none : (a * 2 ^ w) % 2 ^ w ≡ 0 = clear-low a w in
+    let none : (a * 2 ^ w) % 2 ^ w ≡ 0 = mul-mod_left a (2 ^ w) in
     mod-pow-add (a * 2 ^ w) j w
     ∙ ap (λ (m : ℕ). (a * 2 ^ w / 2 ^ w % 2 ^ j) * 2 ^ w + m) none
     ∙ add-zero _
@@ -30,6 +27,10 @@ held-more a n held w small =
     width_split held w (a * 2 ^ w + n)
     ∙ ap₂ ◌++◌ (ap (in_width held) (high a w small)) (sym (width_same w (a * 2 ^ w + n)) ∙ ap (in_width w) (low a w small))
 
+-- What stands above so many places that are 0 is moved up by them.
+moved-up : (acc free : ℕ) → acc % 2 ^ free ≡ 0 → acc ≡ acc / 2 ^ free * 2 ^ free
+moved-up acc free clear = sym (split acc free) ∙ ap (λ (m : ℕ). acc / 2 ^ free * 2 ^ free + m) clear ∙ add-zero (acc / 2 ^ free * 2 ^ free)
+
 -- Where those that are held stand above so many places that are 0, and the number takes w of these.
 pub joined : (acc n free w : ℕ) → acc % 2 ^ free ≡ 0 → n < 2 ^ w → w ≤ free → free ≤ 64
     → bit_or acc ((n * 2 ^ (free - w)) % 2 ^ 64) ≡ (acc / 2 ^ free * 2 ^ w + n) * 2 ^ (free - w)
@@ -37,11 +38,10 @@ joined acc n free w clear small fits most =
     let a = acc / 2 ^ free in
     let f = free - w in
     let all : w + f ≡ free = omega arith in
-    let whole : acc ≡ a * 2 ^ free = sym (split acc free) ∙ ap (λ (m : ℕ). a * 2 ^ free + m) clear ∙ add-zero (a * 2 ^ free) in
     let below : n * 2 ^ f < 2 ^ free = subst (λ (k : ℕ). n * 2 ^ f < 2 ^ k) all (shl_lt w f small) in
     let apart : 2 ^ free ≡ 2 ^ w * 2 ^ f = ap (λ (k : ℕ). 2 ^ k) (sym all) ∙ pow-add 2 w f in
     ap (bit_or acc) (shl_exact w f 64 small (omega (arith, all, most)))
-    ∙ ap (λ (m : ℕ). bit_or m (n * 2 ^ f)) whole
+    ∙ ap (λ (m : ℕ). bit_or m (n * 2 ^ f)) (moved-up acc free clear)
     ∙ or_shifted a free (n * 2 ^ f) below
     ∙ ap (λ (m : ℕ). a * m + n * 2 ^ f) apart
     ∙ ap (λ (m : ℕ). m + n * 2 ^ f) (sym (mul_assoc a (2 ^ w) (2 ^ f)))
@@ -239,7 +239,6 @@ last acc free k clear most few small =
     let z = 8 * k - (64 - free) in
     let j = 32 + (32 - 8 * k) in
     let all : free ≡ z + j = omega arith in
-    let whole : acc ≡ a * 2 ^ free = sym (split acc free) ∙ ap (λ (m : ℕ). a * 2 ^ free + m) clear ∙ add-zero (a * 2 ^ free) in
     shr-shr acc 32 (32 - 8 * k)
-    ∙ ap (λ (m : ℕ). m / 2 ^ j) (whole ∙ ap (λ (m : ℕ). a * 2 ^ m) all ∙ ap (λ (m : ℕ). a * m) (pow-add 2 z j) ∙ sym (mul_assoc a (2 ^ z) (2 ^ j)))
+    ∙ ap (λ (m : ℕ). m / 2 ^ j) (moved-up acc free clear ∙ ap (λ (m : ℕ). a * 2 ^ m) all ∙ ap (λ (m : ℕ). a * m) (pow-add 2 z j) ∙ sym (mul_assoc a (2 ^ z) (2 ^ j)))
     ∙ shl-shr (a * 2 ^ z) j

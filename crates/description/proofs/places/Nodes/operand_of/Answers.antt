@@ -9,7 +9,8 @@ use lib.ListN.{length, get_or}
 use Rattle.std.specs.Prelude.{Ok, None}
 use Rattle.std.proofs.Common.{refl, to_z-of_z, w64}
 use Rattle.bits.specs.Bits.{total, number}
-use Rattle.bits.specs.Lowest.{lowest, lowest_signed}
+use Rattle.bits.specs.Lowest.{lowest_signed}
+use Rattle.bits.proofs.Answers.{lowest-number}
 use Rattle.bits.specs.Whole.{twos_complement}
 use Rattle.description.specs.Inner.Children.{bind_named}
 use Rattle.description.specs.Kinds.{operand, row_of}
@@ -35,8 +36,8 @@ module _ (d starts : List ℕ) (node j : ℕ) (p : Known d starts node) (h : j +
   value = twos_complement 32 (number d place 32)
 
   number_is : lowest_signed d place 32 ≡ Ok value
-  unfolding total lowest
-  number_is = grind (arith, inside)
+  unfolding total
+  number_is = lowest-number d place 32 value (omega arith) (omega (arith, inside))
 
   constant-is : bind_named (operand_of d node j) ≡ None → constant value ≡ operand_of d node j
   unfolding operand_of operand

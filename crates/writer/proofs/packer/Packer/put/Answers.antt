@@ -2,10 +2,11 @@
 use Rattle.std.proofs.Common.{◌≡◌, ℕ, ◌+◌, ◌*◌, ◌-◌, ◌/◌, ◌%◌, ◌^◌, ◌<◌, ◌≤◌, List, ◌++◌, length, take, drop, bit_or, ap, ◌∙◌, subst, arith}
 use native.Mathlib.Decide.{dec_lt}
 use Rattle.std.specs.Int.{bytes_high_first}
+use Rattle.std.proofs.Math.Nat.{mul-mod_left}
 use lib.Pow.{shl-shr}
 use Rattle.writing.specs.Bits.{in_width, width_of}
 use Rattle.writer.specs.Inner.Packing.{Stands}
-use Rattle.writer.proofs.Packing.{joined, top, moved-out, clear-low, packs_more, packs_low, packs_bytes, packs_past}
+use Rattle.writer.proofs.Packing.{joined, top, moved-out, packs_more, packs_low, packs_bytes, packs_past}
 use Rattle.writer.proofs.packer.Packer.put.Goals as goal
 use Rattle.writer.proofs.packer.Packer.put.Goals.{After-from}
 
@@ -58,7 +59,7 @@ invariant_of-self c =
     let s = (goal.at.invariant_of-self c).After-from in
     record {
       few = (omega arith, omega arith);
-      clear = ap (λ (n : ℕ). n % 2 ^ (f s + 32)) (rest-is s c.if-self-le32.true) ∙ clear-low (b s % 2 ^ (32 - f s)) (f s + 32);
+      clear = ap (λ (n : ℕ). n % 2 ^ (f s + 32)) (rest-is s c.if-self-le32.true) ∙ mul-mod_left (b s % 2 ^ (32 - f s)) (2 ^ (f s + 32));
       near = omega arith;
     }
 
@@ -67,7 +68,7 @@ invariant_of-self-else-self-le32 c =
     let s = (goal.at.invariant_of-self-else-self-le32 c).After-from in
     record {
       few = (omega arith, omega arith);
-      clear = ap (λ (n : ℕ). n % 2 ^ f s) (acc-is s) ∙ clear-low (b s) (f s);
+      clear = ap (λ (n : ℕ). n % 2 ^ f s) (acc-is s) ∙ mul-mod_left (b s) (2 ^ f s);
       near = omega arith;
     }
 
